@@ -1,0 +1,57 @@
+-- Sign extension: it looks at the low n bits alone, none read 0, and 64 bits are the word itself. Assumes nothing.
+use mathlib.Core.Bool.{Bool, true, false, cond}
+use mathlib.Core.Path.{_≡_, refl, sym, ap, _∙_}
+use Prim.Native.Nat.{ℕ, zero, suc, _+_, _-_, _*_, _/_, _%_, _^_, _<_, _≤_}
+use native.Mathlib.Nat.{div-one, mod-lt, mod-one, mod-eq-of-lt}
+use native.Mathlib.Omega.{arith}
+use borrow.Author.Tests.{lt-ltb, le-ltb}
+use lib.Dec.{ltb}
+use lib.Pow.{pow-add, pow-pos, pow-lt, pow-mono, mod-pow-add}
+use Rattle.utils.specs.Word.{cut, extend}
+
+pub extend-none : (x : ℕ) → extend 0 x ≡ 0
+unfolding extend
+extend-none x = ap (λ (l : ℕ). cond (ltb l 1) l (l + (2 ^ 64 - 1))) (mod-one x)
+
+either : (b : Bool) {x y : ℕ} → y ≡ x → cond b x y ≡ x
+either true e = refl
+either false e = e
+
+-- 64 bits or more
+pub extend-whole : (n x : ℕ) → 64 ≤ n → x < 2 ^ 64 → extend n x ≡ x
+unfolding extend
+extend-whole n x h l =
+    let p : 2 ^ 64 ≤ 2 ^ n = pow-mono h in
+    either (ltb (x % 2 ^ n) (2 ^ (n - 1))) (omega arith) ∙ mod-eq-of-lt (omega arith)
+
+-- words with the same low n bits extend alike
+pub extend-same : (n x y : ℕ) → cut x 0 n ≡ cut y 0 n → extend n x ≡ extend n y
+unfolding extend cut
+extend-same n x y e = let h : x % 2 ^ n ≡ y % 2 ^ n = ap (λ (z : ℕ). z % 2 ^ n) (sym (div-one x)) ∙ e ∙ ap (λ (z : ℕ). z % 2 ^ n) (div-one y) in ap (λ (l : ℕ). cond (ltb l (2 ^ (n - 1))) l (l + (2 ^ 64 - 2 ^ n))) h
+
+-- ---- how `sign_extend` computes it, with k the place of the sign bit
+-- the power that a shift of 1 gives
+pub power : (k : ℕ) → k < 64 → 1 * 2 ^ k % 2 ^ 64 ≡ 2 ^ k
+power k h = let l : 2 ^ k < 2 ^ 64 = pow-lt h in let e : 1 * 2 ^ k ≡ 2 ^ k = omega arith in rw e (mod-eq-of-lt l)
+
+module _ (n x : ℕ) (some : 1 ≤ n) where
+  low-bits : x % 2 ^ n ≡ x / 2 ^ (n - 1) % 2 * 2 ^ (n - 1) + x % 2 ^ (n - 1)
+  low-bits = let e : n ≡ 1 + (n - 1) = omega arith in ap (λ (m : ℕ). x % 2 ^ m) e ∙ mod-pow-add x 1 (n - 1)
+
+  -- the sign bit clear
+  pub extend-clear : x / 2 ^ (n - 1) % 2 ≡ 0 → x % 2 ^ (n - 1) ≡ extend n x
+  unfolding extend
+  extend-clear e =
+      let l : x % 2 ^ n ≡ x % 2 ^ (n - 1) = low-bits ∙ rw e (omega arith) in
+      rw (l, lt-ltb (x % 2 ^ (n - 1)) (2 ^ (n - 1)) (mod-lt x (pow-pos (n - 1))))
+
+  -- the sign bit set
+  pub extend-set : n ≤ 64 → (x / 2 ^ (n - 1) % 2 ≡ 0 → ⊥) → x % 2 ^ (n - 1) + (18446744073709551615 - 2 ^ (n - 1) + 1) ≡ extend n x
+  unfolding extend
+  extend-set h ne =
+      let b : x / 2 ^ (n - 1) % 2 ≡ 1 = omega (arith, ne) in
+      let l : x % 2 ^ n ≡ 2 ^ (n - 1) + x % 2 ^ (n - 1) = low-bits ∙ rw b (omega arith) in
+      let e : n ≡ 1 + (n - 1) = omega arith in
+      let d : 2 ^ n ≡ 2 * 2 ^ (n - 1) = ap (λ (m : ℕ). 2 ^ m) e ∙ pow-add 2 1 (n - 1) in
+      let s : 2 ^ n ≤ 2 ^ 64 = pow-mono h in
+      rw (l, le-ltb (2 ^ (n - 1) + x % 2 ^ (n - 1)) (2 ^ (n - 1)) (omega arith)) (omega arith)

@@ -1,0 +1,5 @@
+pub mod TwosComplement
+pub mod Field
+pub mod Extend
+pub mod Product
+pub mod Bytes

@@ -1,0 +1,20 @@
+use Rattle.utils.specs.Bytes.{toBytes}
+use Rattle.utils.proofs.TwosComplement.{widened, through}
+use mir.Syntax.{w32}
+use borrow.Author.Needs.{needs}
+use Rattle.utils.proofs.convert_i32_to_u8vec.Statement.{statement}
+use Rattle.utils.proofs.convert_i32_to_u8vec.Tie as tie
+
+pub convert-i32-to-u8vec-spec : {M : Type 1} → statement M
+unfolding toBytes
+convert-i32-to-u8vec-spec =
+    tie.close
+    (tie.spec
+    (λ c. widened w32 (c .args .value) (c .fits .value) tt)
+    (λ c κs. search needs)
+    (λ c κs. search needs)
+    (λ c. search needs)
+    (λ c. search needs)
+    (λ c. search needs)
+    (λ c. search needs)
+    (λ c. rw (c .word-to-bytes .ensures, c .before .word-of .ensures, through w32 (c .before .before .args .value) (c .before .before .fits .value) tt)))

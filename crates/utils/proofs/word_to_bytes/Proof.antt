@@ -1,0 +1,18 @@
+use Rattle.utils.proofs.Bytes.{to-eight}
+use borrow.Author.Needs.{needs}
+use Rattle.utils.proofs.word_to_bytes.Statement.{statement}
+use Rattle.utils.proofs.word_to_bytes.Tie as tie
+
+pub word-to-bytes-spec : {M : Type 1} → statement M
+word-to-bytes-spec =
+    tie.close
+    (tie.spec
+    (λ c. search needs)
+    (λ c. search needs)
+    (λ c. search needs)
+    (λ c. search needs)
+    (λ c. search needs)
+    (λ c. search needs)
+    (λ c. search needs)
+    (λ c. search needs)
+    (λ c. to-eight (c .args .word)))
