@@ -3,3 +3,4 @@ pub mod Field
 pub mod Extend
 pub mod Product
 pub mod Bytes
+pub mod Outcomes

@@ -1,0 +1,15 @@
+use borrow.Author.Needs.{needs}
+use Rattle.instruction_set.proofs.register_size_or.Statement.{statement}
+use Rattle.instruction_set.proofs.register_size_or.Tie as tie
+
+pub register-size-or-spec : {M : Type 1} → statement M
+register-size-or-spec =
+    tie.close
+    (tie.spec
+    (λ c. search needs)
+    (λ c κs. search needs)
+    (λ c. search needs)
+    (λ c. search needs)
+    (λ c. rw (c .before .before .argument .given .1, c .get-register-size .ensures))
+    (λ c. search needs)
+    (λ c. search needs))

@@ -1,0 +1,4 @@
+pub mod Registers
+pub mod Sizes
+pub mod Arguments
+pub mod Builder
