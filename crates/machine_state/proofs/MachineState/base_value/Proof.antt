@@ -1,0 +1,13 @@
+use borrow.Author.Needs.{needs}
+use Rattle.machine_state.proofs.MachineState.base_value.Statement.{statement}
+use Rattle.machine_state.proofs.MachineState.base_value.Tie as tie
+
+pub base-value-spec : {M : Type 1} → statement M
+base-value-spec =
+    tie.close
+    (tie.spec
+    (λ c. search needs)
+    (λ c. search needs)
+    (λ c κs. search needs)
+    (λ c. search needs)
+    (λ c. rw (c .before .before .base .given .1) (c .get-register-value .ensures)))

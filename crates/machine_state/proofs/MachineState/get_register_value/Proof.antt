@@ -1,0 +1,18 @@
+use Rattle.machine_state.specs.Machine.{readReg}
+use Rattle.instruction_set.proofs.Bounds.{parent-below}
+use native.Mathlib.Omega.{arith}
+use borrow.Author.Needs.{needs}
+use Rattle.machine_state.proofs.MachineState.get_register_value.Statement.{statement}
+use Rattle.machine_state.proofs.MachineState.get_register_value.Tie as tie
+
+pub get-register-value-spec : {M : Type 1} → statement M
+unfolding readReg
+get-register-value-spec =
+    tie.close
+    (tie.spec
+    (λ c κs. search needs)
+    (λ c. omega (arith, parent-below (c .before .args .register)))
+    (λ c. omega (arith, parent-below (c .before .args .register)))
+    (λ c κs. search needs)
+    (λ c κs. search needs)
+    (λ c. cc))

@@ -1,0 +1,18 @@
+use Rattle.machine_state.specs.FlagBits.{bitSet}
+use Rattle.utils.specs.Word.{cut}
+use Rattle.instruction_set.proofs.Bounds.{bytes-some, bytes-within}
+use native.Mathlib.Omega.{arith}
+use borrow.Author.Needs.{needs}
+use Rattle.machine_state.proofs.sign_bit.Statement.{statement}
+use Rattle.machine_state.proofs.sign_bit.Tie as tie
+
+pub sign-bit-spec : {M : Type 1} → statement M
+unfolding bitSet cut
+sign-bit-spec =
+    tie.close
+    (tie.spec
+    (λ c κs. search needs)
+    (λ c. omega (arith, bytes-some (c .before .args .size), c .size-bits .ensures))
+    (λ c. search needs)
+    (λ c. omega (arith, bytes-within (c .before .args .size), c .size-bits .ensures))
+    (λ c. rw (c .size-bits .ensures)))

@@ -1,0 +1,45 @@
+-- The effective address of 01, "Addresses, pages, walk": base plus index times scale plus displacement, modulo 2^64.
+use mathlib.Core.List.{[], _∷_}
+use Prim.Native.Nat.{ℕ, _+_, _*_, _%_, _^_}
+use lib.IntN.{ℤ}
+use mir.Syntax.{w64}
+use mir.Val.{ofZ}
+use Rattle.utils.specs.Outcome.{Outcome, gives, refuses}
+use Rattle.instruction_set.specs.declared.InstructionArgument.{InstructionArgument}
+use Rattle.instruction_set.specs.declared.InstructionArgument.the-variants as arg
+use Rattle.instruction_set.specs.declared.SomeRegister.{SomeRegister}
+use Rattle.instruction_set.specs.declared.SomeRegister.the-variants as reg
+use Rattle.instruction_set.specs.declared.SomeScale.{SomeScale}
+use Rattle.instruction_set.specs.declared.SomeScale.the-variants as by
+use Rattle.machine_state.specs.Machine.{readReg}
+use Rattle.machine_state.specs.declared.Address.{Address}
+use Rattle.machine_state.specs.declared.Address.the-variants as at
+use Rattle.machine_state.specs.declared.MachineState.{MachineState}
+use Rattle.machine_state.specs.declared.Refusal.{Refusal}
+use Rattle.machine_state.specs.declared.Refusal.the-variants.{NotAnAddress, NoScale}
+
+-- 01's number and values of each answer
+abbrev pub numberOf : Refusal → ℕ
+numberOf NotAnAddress = 1
+numberOf NoScale = 3
+
+abbrev pub addressOutcome : Address → Outcome ℕ
+addressOutcome (at.At a) = gives (a ∷ [])
+addressOutcome (at.Refused r) = refuses (numberOf r)
+
+-- "Registers are read as in the table; absent parts count 0"
+abbrev pub baseOf : MachineState → SomeRegister → ℕ
+baseOf m reg.Absent = 0
+baseOf m (reg.Present r) = readReg m r
+
+-- "scale is any byte and is ignored without an index"; 3: an index has no scale
+abbrev pub sumOf : MachineState → SomeRegister → SomeRegister → SomeScale → ℤ → Outcome ℕ
+sumOf m b reg.Absent s d = gives ((baseOf m b + ofZ w64 d) % 2 ^ 64 ∷ [])
+sumOf m b (reg.Present r) by.Absent d = refuses 3
+sumOf m b (reg.Present r) (by.Present n) d = gives ((baseOf m b + readReg m r * n + ofZ w64 d) % 2 ^ 64 ∷ [])
+
+-- 1: an address is asked of a register or an immediate
+unfoldable pub addressOf : MachineState → InstructionArgument → Outcome ℕ
+addressOf m (arg.Register r) = refuses 1
+addressOf m (arg.Immediate v) = refuses 1
+addressOf m (arg.EffectiveAddress b i s d) = sumOf m b i s d

@@ -1,0 +1,51 @@
+-- The machine's registers: what a read gives and a write leaves, by the table of 01, "Registers and flags".
+use mathlib.Core.Bool.{cond}
+use mathlib.Core.List.{List}
+use Prim.Native.Nat.{ℕ, _*_, _%_, _^_}
+use lib.Dec.{ltb}
+use lib.ListN.{getD, set, replicate}
+use Rattle.utils.specs.Word.{cut, put, extend}
+use Rattle.instruction_set.specs.Registers.{parentOf, partOf, firstOf, readsOf, rewritesOf}
+use Rattle.instruction_set.specs.declared.Part.{Part}
+use Rattle.instruction_set.specs.declared.Register.{Register}
+use Rattle.machine_state.specs.declared.Changed.{Changed}
+use Rattle.machine_state.specs.declared.Event.{Event}
+use Rattle.machine_state.specs.declared.Event.the-variants.{Quiet, Control}
+use Rattle.machine_state.specs.declared.MachineState.{MachineState}
+
+-- a new machine is all zeros
+abbrev pub newMachine : MachineState
+newMachine = record { regs = replicate 22 0; rflags = 0; gdt = 0; idt = 0 }
+
+-- m with other registers, or with other flags, and all else as it is
+abbrev pub withRegs : MachineState → List ℕ → MachineState
+withRegs m xs = record { regs = xs; rflags = m .rflags; gdt = m .gdt; idt = m .idt }
+
+abbrev pub withFlags : MachineState → ℕ → MachineState
+withFlags m x = record { regs = m .regs; rflags = x; gdt = m .gdt; idt = m .idt }
+
+-- the machine after a call, and its event
+abbrev pub changed : MachineState → Event → Changed
+changed m e = record { machine = m; event = e }
+
+-- parent i
+abbrev pub parentAt : MachineState → ℕ → ℕ
+parentAt m i = getD (m .regs) i 0
+
+-- "reads lanes": those of the part, sign-extended
+unfoldable pub readOf : Part → ℕ → ℕ
+readOf p x = extend (8 * readsOf p) (cut x (8 * firstOf p) (8 * readsOf p))
+
+-- "rewrites lanes": they come from as many low lanes of v as the part has, with zeros above those
+unfoldable pub writeOf : Part → ℕ → ℕ → ℕ
+writeOf p x v = put x (8 * firstOf p) (8 * rewritesOf p) (v % 2 ^ (8 * readsOf p))
+
+unfoldable pub readReg : MachineState → Register → ℕ
+readReg m r = readOf (partOf r) (parentAt m (parentOf r))
+
+unfoldable pub writeReg : MachineState → Register → ℕ → MachineState
+writeReg m r v = withRegs m (set (m .regs) (parentOf r) (writeOf (partOf r) (parentAt m (parentOf r)) v))
+
+-- "Writing CR0, CR2, CR3, CR4 or CR8 gives an event with the register and the value": parents 17 to 21
+unfoldable pub eventOf : Register → ℕ → Event
+eventOf r v = cond (ltb (parentOf r) 17) Quiet (Control r v)
