@@ -16,8 +16,10 @@ use Rattle.instruction_set.specs.declared.Register.the-variants.{RAX, RBX, EAX,
 use Rattle.instruction_set.specs.declared.SomeRegister.the-variants as reg
 use Rattle.instruction_set.specs.declared.SomeScale.the-variants as by
 use Rattle.machine_state.specs.Address.{addressOf}
-use Rattle.machine_state.specs.FlagBits.{boolBit, bitSet, flagIn, putFlag, computeFlags, evenOnes}
-use Rattle.machine_state.specs.Machine.{newMachine, readOf, writeOf, readReg, writeReg}
+use Rattle.fields.specs.FlagBits.{boolBit, bitSet, putFlag, evenOnes}
+use Rattle.fields.specs.Parts.{readOf, writeOf}
+use Rattle.machine_state.specs.Flagged.{flagIn, computeFlags}
+use Rattle.machine_state.specs.Machine.{newMachine, readReg, writeReg}
 use Rattle.machine_state.specs.declared.MachineState.{MachineState}
 
 abbrev minus : ℕ → ℕ

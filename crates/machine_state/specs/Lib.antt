@@ -1,3 +1,3 @@
 pub mod Machine
-pub mod FlagBits
+pub mod Flagged
 pub mod Address

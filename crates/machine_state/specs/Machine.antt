@@ -1,12 +1,11 @@
 -- The machine's registers: what a read gives and a write leaves, by the table of 01, "Registers and flags".
 use mathlib.Core.Bool.{cond}
 use mathlib.Core.List.{List}
-use Prim.Native.Nat.{ℕ, _*_, _%_, _^_}
+use Prim.Native.Nat.{ℕ}
 use lib.Dec.{ltb}
 use lib.ListN.{getD, set, replicate}
-use Rattle.utils.specs.Word.{cut, put, extend}
-use Rattle.instruction_set.specs.Registers.{parentOf, partOf, firstOf, readsOf, rewritesOf}
-use Rattle.instruction_set.specs.declared.Part.{Part}
+use Rattle.fields.specs.Parts.{readOf, writeOf}
+use Rattle.instruction_set.specs.Registers.{parentOf, partOf}
 use Rattle.instruction_set.specs.declared.Register.{Register}
 use Rattle.machine_state.specs.declared.Changed.{Changed}
 use Rattle.machine_state.specs.declared.Event.{Event}
@@ -31,14 +30,6 @@ changed m e = record { machine = m; event = e }
 -- parent i
 abbrev pub parentAt : MachineState → ℕ → ℕ
 parentAt m i = getD (m .regs) i 0
-
--- "reads lanes": those of the part, sign-extended
-unfoldable pub readOf : Part → ℕ → ℕ
-readOf p x = extend (8 * readsOf p) (cut x (8 * firstOf p) (8 * readsOf p))
-
--- "rewrites lanes": they come from as many low lanes of v as the part has, with zeros above those
-unfoldable pub writeOf : Part → ℕ → ℕ → ℕ
-writeOf p x v = put x (8 * firstOf p) (8 * rewritesOf p) (v % 2 ^ (8 * readsOf p))
 
 unfoldable pub readReg : MachineState → Register → ℕ
 readReg m r = readOf (partOf r) (parentAt m (parentOf r))

@@ -1,18 +1,16 @@
 // The machine: its registers and flags, and the calls on them. A machine goes in by value and comes back inside the answer of every call that
-// may change it. Below are instruction_set, which names registers and operands, and utils; above are text, calls and the programs.
+// may change it. Below are instruction_set, which names registers and operands, and fields, which reads and rewrites parts of words; above are
+// text, calls and the programs.
 // Document 01: "Registers and flags", the effective address of "Addresses, pages, walk", refusals 1 and 3.
 use instruction_set::ArgumentSize;
 use instruction_set::Flags;
 use instruction_set::InstructionArgument;
-use instruction_set::Part;
 use instruction_set::Register;
 use instruction_set::SomeRegister;
 use instruction_set::SomeScale;
 ghost use mathlib.Core.Path.{_≡_};
-ghost use Prim.Native.Nat.{_<_};
-ghost use Rattle.utils.specs.Word.{put};
-ghost use Rattle.machine_state.specs.Machine.{newMachine, readOf, writeOf, readReg, writeReg, eventOf, changed};
-ghost use Rattle.machine_state.specs.FlagBits.{boolBit, flagIn, setFlag, signIn, evenOnes, computeFlags, putFlag};
+ghost use Rattle.machine_state.specs.Machine.{newMachine, readReg, writeReg, eventOf, changed};
+ghost use Rattle.machine_state.specs.Flagged.{flagIn, setFlag, computeFlags};
 ghost use Rattle.machine_state.specs.Address.{baseOf, addressOf, addressOutcome};
 ghost use Rattle.machine_state.specs.declared.Event.the-variants.{Quiet};
 
@@ -49,68 +47,6 @@ pub enum Address {
     Refused(Refusal),
 }
 
-// The part's lanes of its parent, sign-extended.
-fn read_part(part: Part, x: u64) -> u64
-    ensures { λ r. ⌜ r ≡ readOf part x ⌝ }
-{
-    match part {
-        Part::Whole => x,
-        Part::Low32 => utils::sign_extend(x, 32),
-        Part::Low16 => utils::sign_extend(x, 16),
-        Part::Low8 => utils::sign_extend(x, 8),
-        Part::High8 => utils::sign_extend(x / 0x100, 8),
-        Part::Nothing => 0,
-    }
-}
-
-// The parent with the part's lanes rewritten.
-fn write_part(part: Part, x: u64, value: u64) -> u64
-    ensures { λ r. ⌜ r ≡ writeOf part x value ⌝ }
-{
-    match part {
-        Part::Whole => value,
-        Part::Low32 => value % 0x1_0000_0000,
-        Part::Low16 => x / 0x1_0000 * 0x1_0000 + value % 0x1_0000,
-        Part::Low8 => x / 0x100 * 0x100 + value % 0x100,
-        Part::High8 => x / 0x1_0000 * 0x1_0000 + value % 0x100 * 0x100 + x % 0x100,
-        Part::Nothing => x,
-    }
-}
-
-// The flag's bit goes out of x, and the new one comes in.
-fn with_flag(x: u64, flag: Flags, value: bool) -> u64
-    ensures { λ r. ⌜ r ≡ putFlag x flag value ⌝ }
-{
-    let bit = instruction_set::flag_bit(flag);
-    let others = x - ((x >> bit) % 2 << bit);
-    if value {
-        return others + (1 << bit);
-    }
-    others
-}
-
-fn sign_bit(result: u64, size: ArgumentSize) -> bool
-    ensures { λ r. ⌜ r ≡ signIn size result ⌝ }
-{
-    let top = instruction_set::size_bits(size) - 1;
-    (result >> top) % 2 == 1
-}
-
-// Whether the low byte has an even number of ones: the Rust's loop of exclusive-ors.
-fn even_parity(result: u64) -> bool
-    ensures { λ r. ⌜ r ≡ evenOnes result ⌝ }
-{
-    let mut parity: u64 = 0;
-    let mut rest = result;
-    let mut i: u64 = 0;
-    while i < 8 {
-        parity = parity ^ rest % 2;
-        rest = rest / 2;
-        i += 1;
-    }
-    parity != 1
-}
-
 impl MachineState {
     pub fn new() -> MachineState
         ensures { λ m. ⌜ m ≡ newMachine ⌝ }
@@ -128,7 +64,7 @@ impl MachineState {
     {
         let parent = instruction_set::get_parent(register);
         let x = self.regs[parent];
-        read_part(instruction_set::get_part(register), x)
+        fields::read_part(instruction_set::get_part(register), x)
     }
 
     pub fn set_register_value(mut self, register: Register, value: u64) -> Changed
@@ -136,7 +72,7 @@ impl MachineState {
     {
         let parent = instruction_set::get_parent(register);
         let x = self.regs[parent];
-        self.regs[parent] = write_part(instruction_set::get_part(register), x, value);
+        self.regs[parent] = fields::write_part(instruction_set::get_part(register), x, value);
         if parent < CR0 {
             return Changed {
                 machine: self,
@@ -152,14 +88,13 @@ impl MachineState {
     pub fn get_flag(self, flag: Flags) -> bool
         ensures { λ r. ⌜ r ≡ flagIn self flag ⌝ }
     {
-        let bit = instruction_set::flag_bit(flag);
-        (self.rflags >> bit) % 2 == 1
+        fields::test_flag(self.rflags, flag)
     }
 
     pub fn set_flag(mut self, flag: Flags, value: bool) -> Changed
         ensures { λ r. ⌜ r ≡ changed (setFlag self flag value) Quiet ⌝ }
     {
-        self.rflags = with_flag(self.rflags, flag, value);
+        self.rflags = fields::with_flag(self.rflags, flag, value);
         Changed {
             machine: self,
             event: Event::Quiet,
@@ -170,9 +105,9 @@ impl MachineState {
     pub fn compute_flags(mut self, result: u64, argument_size: ArgumentSize) -> Changed
         ensures { λ r. ⌜ r ≡ changed (computeFlags self result «argument_size») Quiet ⌝ }
     {
-        let zero = with_flag(self.rflags, Flags::Zero, result == 0);
-        let sign = with_flag(zero, Flags::Sign, sign_bit(result, argument_size));
-        self.rflags = with_flag(sign, Flags::Parity, even_parity(result));
+        let zero = fields::with_flag(self.rflags, Flags::Zero, result == 0);
+        let sign = fields::with_flag(zero, Flags::Sign, fields::sign_bit(result, argument_size));
+        self.rflags = fields::with_flag(sign, Flags::Parity, fields::even_parity(result));
         Changed {
             machine: self,
             event: Event::Quiet,

@@ -1,11 +1,11 @@
-use Rattle.machine_state.specs.Machine.{readOf}
+use Rattle.fields.specs.Parts.{readOf}
 use Rattle.utils.proofs.Field.{cut-all}
 use Rattle.utils.proofs.Extend.{extend-whole, extend-cut, extend-low, extend-none}
 use native.Mathlib.Omega.{arith}
 use mathlib.Core.Path.{sym, _∙_}
 use borrow.Author.Needs.{needs}
-use Rattle.machine_state.proofs.read_part.Statement.{statement}
-use Rattle.machine_state.proofs.read_part.Tie as tie
+use Rattle.fields.proofs.read_part.Statement.{statement}
+use Rattle.fields.proofs.read_part.Tie as tie
 
 enum-told : tie.Need-enum-told
 enum-told c = search needs

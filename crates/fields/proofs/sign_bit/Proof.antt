@@ -1,10 +1,10 @@
-use Rattle.machine_state.specs.FlagBits.{bitSet}
+use Rattle.fields.specs.FlagBits.{bitSet}
 use Rattle.utils.specs.Word.{cut}
 use Rattle.instruction_set.proofs.Bounds.{bytes-some, bytes-within}
 use native.Mathlib.Omega.{arith}
 use borrow.Author.Needs.{needs}
-use Rattle.machine_state.proofs.sign_bit.Statement.{statement}
-use Rattle.machine_state.proofs.sign_bit.Tie as tie
+use Rattle.fields.proofs.sign_bit.Statement.{statement}
+use Rattle.fields.proofs.sign_bit.Tie as tie
 
 pub sign-bit-spec : {M : Type 1} → statement M
 unfolding bitSet cut

@@ -1,9 +1,9 @@
-use Rattle.machine_state.specs.Machine.{writeOf}
+use Rattle.fields.specs.Parts.{writeOf}
 use Rattle.utils.specs.Word.{put}
 use native.Mathlib.Omega.{arith}
 use borrow.Author.Needs.{needs}
-use Rattle.machine_state.proofs.write_part.Statement.{statement}
-use Rattle.machine_state.proofs.write_part.Tie as tie
+use Rattle.fields.proofs.write_part.Statement.{statement}
+use Rattle.fields.proofs.write_part.Tie as tie
 
 enum-told : tie.Need-enum-told
 enum-told c = search needs

@@ -1,14 +1,14 @@
--- `machine_state::even_parity` meets its contract. The invariant: what is seen and what is left have together the parity of the low byte's ones.
+-- `fields::even_parity` meets its contract. The invariant: what is seen and what is left have together the parity of the low byte's ones.
 -- The measure is the number of bits left. Assumes nothing.
 use mathlib.Core.Path.{_≡_, sym, _∙_, ap}
 use Prim.Native.Nat.{_+_, _-_, _%_, _≤_, _<_}
 use native.Mathlib.Omega.{arith}
 use lib.Count.{onesIn}
 use lib.Dec.{eqb}
-use Rattle.machine_state.specs.FlagBits.{evenOnes}
-use Rattle.machine_state.proofs.Parity.{turn, still-bit, ended, ones-low, not-one}
-use Rattle.machine_state.proofs.even_parity.Statement.{statement}
-use Rattle.machine_state.proofs.even_parity.Tie as tie
+use Rattle.fields.specs.FlagBits.{evenOnes}
+use Rattle.fields.proofs.Parity.{turn, still-bit, ended, ones-low, not-one}
+use Rattle.fields.proofs.even_parity.Statement.{statement}
+use Rattle.fields.proofs.even_parity.Tie as tie
 
 abbrev Inv-loop : tie.InvT-loop
 Inv-loop result parity₀ rest₀ i₀ parity rest i =

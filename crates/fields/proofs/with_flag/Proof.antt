@@ -1,11 +1,11 @@
 use Rattle.instruction_set.specs.Sizes.{bitOf}
-use Rattle.machine_state.specs.FlagBits.{putFlag}
-use Rattle.machine_state.proofs.BitOf.{shifted-le, bit-in, bit-out, put-fits}
+use Rattle.fields.specs.FlagBits.{putFlag}
+use Rattle.fields.proofs.BitOf.{shifted-le, bit-in, bit-out, put-fits}
 use Rattle.instruction_set.proofs.Bounds.{bit-below}
 use native.Mathlib.Omega.{arith}
 use borrow.Author.Needs.{needs}
-use Rattle.machine_state.proofs.with_flag.Statement.{statement}
-use Rattle.machine_state.proofs.with_flag.Tie as tie
+use Rattle.fields.proofs.with_flag.Statement.{statement}
+use Rattle.fields.proofs.with_flag.Tie as tie
 
 pub with-flag-spec : {M : Type 1} → statement M
 unfolding putFlag

@@ -1,0 +1,4 @@
+pub mod BitOf
+pub mod Parity
+pub mod PartLaws
+pub mod FlagLaws

@@ -1,0 +1,79 @@
+// Fields of a word: the part of its parent that a register is, and the flag that a bit of rflags is. Everything here goes from words to words;
+// machine_state, above, keeps the words. Below are instruction_set, which says where each field stands, and utils, which has the law of fields.
+// Document 01: the table of "Registers and flags", and what `compute_flags` looks at.
+use instruction_set::ArgumentSize;
+use instruction_set::Flags;
+use instruction_set::Part;
+ghost use mathlib.Core.Path.{_≡_};
+ghost use Rattle.fields.specs.Parts.{readOf, writeOf};
+ghost use Rattle.fields.specs.FlagBits.{flagOf, putFlag, signIn, evenOnes};
+
+// The part's lanes of its parent, sign-extended.
+pub fn read_part(part: Part, x: u64) -> u64
+    ensures { λ r. ⌜ r ≡ readOf part x ⌝ }
+{
+    match part {
+        Part::Whole => x,
+        Part::Low32 => utils::sign_extend(x, 32),
+        Part::Low16 => utils::sign_extend(x, 16),
+        Part::Low8 => utils::sign_extend(x, 8),
+        Part::High8 => utils::sign_extend(x / 0x100, 8),
+        Part::Nothing => 0,
+    }
+}
+
+// The parent with the part's lanes rewritten.
+pub fn write_part(part: Part, x: u64, value: u64) -> u64
+    ensures { λ r. ⌜ r ≡ writeOf part x value ⌝ }
+{
+    match part {
+        Part::Whole => value,
+        Part::Low32 => value % 0x1_0000_0000,
+        Part::Low16 => x / 0x1_0000 * 0x1_0000 + value % 0x1_0000,
+        Part::Low8 => x / 0x100 * 0x100 + value % 0x100,
+        Part::High8 => x / 0x1_0000 * 0x1_0000 + value % 0x100 * 0x100 + x % 0x100,
+        Part::Nothing => x,
+    }
+}
+
+pub fn test_flag(x: u64, flag: Flags) -> bool
+    ensures { λ r. ⌜ r ≡ flagOf x flag ⌝ }
+{
+    let bit = instruction_set::flag_bit(flag);
+    (x >> bit) % 2 == 1
+}
+
+// The flag's bit goes out of x, and the new one comes in.
+pub fn with_flag(x: u64, flag: Flags, value: bool) -> u64
+    ensures { λ r. ⌜ r ≡ putFlag x flag value ⌝ }
+{
+    let bit = instruction_set::flag_bit(flag);
+    let others = x - ((x >> bit) % 2 << bit);
+    if value {
+        return others + (1 << bit);
+    }
+    others
+}
+
+// The top bit of the size.
+pub fn sign_bit(result: u64, size: ArgumentSize) -> bool
+    ensures { λ r. ⌜ r ≡ signIn size result ⌝ }
+{
+    let top = instruction_set::size_bits(size) - 1;
+    (result >> top) % 2 == 1
+}
+
+// Whether the low byte has an even number of ones: the Rust's loop of exclusive-ors.
+pub fn even_parity(result: u64) -> bool
+    ensures { λ r. ⌜ r ≡ evenOnes result ⌝ }
+{
+    let mut parity: u64 = 0;
+    let mut rest = result;
+    let mut i: u64 = 0;
+    while i < 8 {
+        parity = parity ^ rest % 2;
+        rest = rest / 2;
+        i += 1;
+    }
+    parity != 1
+}
