@@ -4,3 +4,4 @@ pub mod Extend
 pub mod Product
 pub mod Bytes
 pub mod Outcomes
+pub mod RoundTrip

@@ -1,3 +1,4 @@
+-- `fields::read_part` meets its contract: each arm extends the low bits of the part's first lane on, which is to extend its field. Assumes nothing.
 use Rattle.fields.specs.Parts.{readOf}
 use Rattle.utils.proofs.Field.{cut-all}
 use Rattle.utils.proofs.Extend.{extend-whole, extend-cut, extend-low, extend-none}

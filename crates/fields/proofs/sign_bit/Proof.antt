@@ -1,3 +1,4 @@
+-- `fields::sign_bit` meets its contract: the top bit, shifted down, is its field of one bit. Assumes nothing.
 use Rattle.fields.specs.FlagBits.{bitSet}
 use Rattle.utils.specs.Word.{cut}
 use Rattle.instruction_set.proofs.Bounds.{bytes-some, bytes-within}

@@ -1,3 +1,4 @@
+-- `fields::test_flag` meets its contract: the flag's bit, shifted down, is its field of one bit. Assumes nothing.
 use Rattle.fields.specs.FlagBits.{bitSet}
 use Rattle.utils.specs.Word.{cut}
 use Rattle.instruction_set.proofs.Bounds.{bit-below}

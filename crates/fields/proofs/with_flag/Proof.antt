@@ -1,3 +1,4 @@
+-- `fields::with_flag` meets its contract: the old bit out and the new one in is what `put` does (BitOf). Assumes nothing.
 use Rattle.instruction_set.specs.Sizes.{bitOf}
 use Rattle.fields.specs.FlagBits.{putFlag}
 use Rattle.fields.proofs.BitOf.{shifted-le, bit-in, bit-out, put-fits}

@@ -1,3 +1,4 @@
+-- `fields::write_part` meets its contract: each arm's sum is the field that `put` puts in; arithmetic. Assumes nothing.
 use Rattle.fields.specs.Parts.{writeOf}
 use Rattle.utils.specs.Word.{put}
 use native.Mathlib.Omega.{arith}

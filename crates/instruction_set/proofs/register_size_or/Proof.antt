@@ -1,3 +1,4 @@
+-- `instruction_set::register_size_or` meets its contract: a register has its own size, and each other kind of operand the other. Assumes nothing.
 use borrow.Author.Needs.{needs}
 use Rattle.instruction_set.proofs.register_size_or.Statement.{statement}
 use Rattle.instruction_set.proofs.register_size_or.Tie as tie

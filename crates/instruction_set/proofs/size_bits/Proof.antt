@@ -1,3 +1,4 @@
+-- `instruction_set::size_bits` meets its contract: each arm is the definition's clause. Assumes nothing.
 use borrow.Author.Needs.{needs}
 use Rattle.instruction_set.proofs.size_bits.Statement.{statement}
 use Rattle.instruction_set.proofs.size_bits.Tie as tie

@@ -1,3 +1,4 @@
+-- `utils::bytes_to_word` meets its contract: each partial sum fits, and the whole is the bytes' number (Bytes, `from-eight`). Assumes nothing.
 use Rattle.utils.proofs.Bytes.{from-eight}
 use native.Mathlib.Omega.{arith}
 use borrow.Author.Needs.{needs}

@@ -1,3 +1,4 @@
+-- `utils::convert_i32_to_u8vec` meets its contract: the four lowest bytes of the number's 64 bits. Assumes nothing.
 use Rattle.utils.specs.Bytes.{toBytes}
 use Rattle.utils.proofs.TwosComplement.{widened, through}
 use mir.Syntax.{w32}

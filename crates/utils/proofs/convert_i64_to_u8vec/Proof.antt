@@ -1,3 +1,4 @@
+-- `utils::convert_i64_to_u8vec` meets its contract: the bytes of the number's 64 bits. Assumes nothing.
 use mir.ValLaws.{toZ-ofZ}
 use mir.Syntax.{w64}
 use borrow.Author.Needs.{needs}

@@ -1,3 +1,4 @@
+-- `utils::convert_i8_to_u8vec` meets its contract: the lowest byte of the number's 64 bits. Assumes nothing.
 use Rattle.utils.specs.Bytes.{toBytes}
 use Rattle.utils.proofs.TwosComplement.{widened, through}
 use mir.Syntax.{w8}

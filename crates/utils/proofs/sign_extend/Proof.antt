@@ -1,3 +1,4 @@
+-- `utils::sign_extend` meets its contract: by the sign bit, the bits below it stand alone or under ones (Extend). Assumes nothing.
 use mathlib.Core.Path.{sym}
 use Prim.Native.Nat.{_-_, _<_, _^_}
 use native.Mathlib.Omega.{arith}

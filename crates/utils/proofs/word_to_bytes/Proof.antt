@@ -1,3 +1,4 @@
+-- `utils::word_to_bytes` meets its contract: the eight quotients are the bytes, one by one (Bytes, `to-eight`). Assumes nothing.
 use Rattle.utils.proofs.Bytes.{to-eight}
 use borrow.Author.Needs.{needs}
 use Rattle.utils.proofs.word_to_bytes.Statement.{statement}

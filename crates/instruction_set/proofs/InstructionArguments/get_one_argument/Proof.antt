@@ -1,3 +1,4 @@
+-- `instruction_set::InstructionArguments::get_one_argument` meets its contract: each way out is a clause of `oneOf`. Assumes nothing.
 use borrow.Author.Needs.{needs}
 use Rattle.instruction_set.proofs.InstructionArguments.get_one_argument.Statement.{statement}
 use Rattle.instruction_set.proofs.InstructionArguments.get_one_argument.Tie as tie

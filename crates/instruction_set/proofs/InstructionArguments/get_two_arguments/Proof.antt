@@ -1,3 +1,4 @@
+-- `instruction_set::InstructionArguments::get_two_arguments` meets its contract: each way out is a clause of `twoOf`. Assumes nothing.
 use borrow.Author.Needs.{needs}
 use Rattle.instruction_set.proofs.InstructionArguments.get_two_arguments.Statement.{statement}
 use Rattle.instruction_set.proofs.InstructionArguments.get_two_arguments.Tie as tie

@@ -1,3 +1,4 @@
+-- `instruction_set::InstructionArguments::size` meets its contract: each way out is a clause of the definition, asked in the same order. Assumes nothing.
 use Rattle.instruction_set.specs.Arguments.{sizeOr}
 use mathlib.Core.Path.{_∙_, ap}
 use borrow.Author.Needs.{needs}

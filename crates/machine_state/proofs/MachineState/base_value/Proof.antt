@@ -1,3 +1,4 @@
+-- `machine_state::MachineState::base_value` meets its contract: an absent base is 0, a present one is read by the table. Assumes nothing.
 use borrow.Author.Needs.{needs}
 use Rattle.machine_state.proofs.MachineState.base_value.Statement.{statement}
 use Rattle.machine_state.proofs.MachineState.base_value.Tie as tie

@@ -1,3 +1,4 @@
+-- `machine_state::MachineState::compute_flags` meets its contract: the three flags are set one after the other, as in the definition. Assumes nothing.
 use borrow.Author.Needs.{needs}
 use Rattle.machine_state.proofs.MachineState.compute_flags.Statement.{statement}
 use Rattle.machine_state.proofs.MachineState.compute_flags.Tie as tie

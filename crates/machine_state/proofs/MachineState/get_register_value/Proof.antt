@@ -1,3 +1,4 @@
+-- `machine_state::MachineState::get_register_value` meets its contract: the table's parent and part, and what the part reads. Assumes nothing.
 use Rattle.machine_state.specs.Machine.{readReg}
 use Rattle.instruction_set.proofs.Bounds.{parent-below}
 use native.Mathlib.Omega.{arith}

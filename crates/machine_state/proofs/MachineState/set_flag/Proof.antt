@@ -1,3 +1,4 @@
+-- `machine_state::MachineState::set_flag` meets its contract: rflags is what `with_flag` ensures. Assumes nothing.
 use borrow.Author.Needs.{needs}
 use Rattle.machine_state.proofs.MachineState.set_flag.Statement.{statement}
 use Rattle.machine_state.proofs.MachineState.set_flag.Tie as tie

@@ -1,3 +1,4 @@
+-- `machine_state::MachineState::set_register_value` meets its contract: the parent takes what the part writes, and parents from 17 on give the event. Assumes nothing.
 use Rattle.machine_state.specs.Machine.{changed, writeReg, eventOf}
 use Rattle.instruction_set.specs.Registers.{parentOf}
 use borrow.Author.Tests.{lt-ltb, le-ltb}
