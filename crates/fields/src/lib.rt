@@ -5,7 +5,7 @@ use instruction_set::ArgumentSize;
 use instruction_set::Flags;
 use instruction_set::Part;
 ghost use mathlib.Core.Path.{_≡_};
-ghost use Rattle.fields.specs.Parts.{readOf, writeOf};
+ghost use Rattle.fields.specs.Parts.{readOf, writeOf, memoryValue};
 ghost use Rattle.fields.specs.FlagBits.{flagOf, putFlag, signIn, evenOnes};
 
 // The part's lanes of its parent, sign-extended.
@@ -33,6 +33,18 @@ pub fn write_part(part: Part, x: u64, value: u64) -> u64
         Part::Low8 => x / 0x100 * 0x100 + value % 0x100,
         Part::High8 => x / 0x1_0000 * 0x1_0000 + value % 0x100 * 0x100 + x % 0x100,
         Part::Nothing => x,
+    }
+}
+
+// A value of memory at a size: a byte is zero-extended, unlike an 8-bit register.
+pub fn memory_value(word: u64, size: ArgumentSize) -> u64
+    ensures { λ r. ⌜ r ≡ memoryValue size word ⌝ }
+{
+    match size {
+        ArgumentSize::Bit64 => word,
+        ArgumentSize::Bit32 => utils::sign_extend(word, 32),
+        ArgumentSize::Bit16 => utils::sign_extend(word, 16),
+        ArgumentSize::Bit8 => word,
     }
 }
 

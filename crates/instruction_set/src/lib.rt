@@ -335,7 +335,18 @@ pub fn get_register_size(r: Register) -> ArgumentSize
     size_of_part(get_part(r))
 }
 
-// How many bits a size has.
+// How many bytes, and how many bits, a size has.
+pub fn size_bytes(size: ArgumentSize) -> usize
+    ensures { λ n. ⌜ n ≡ bytesOf size ⌝ }
+{
+    match size {
+        ArgumentSize::Bit64 => 8,
+        ArgumentSize::Bit32 => 4,
+        ArgumentSize::Bit16 => 2,
+        ArgumentSize::Bit8 => 1,
+    }
+}
+
 pub fn size_bits(size: ArgumentSize) -> u32
     ensures { λ n. ⌜ n ≡ 8 * bytesOf size ⌝ }
 {

@@ -1,3 +1,4 @@
 pub mod Lanes
 pub mod Outcomes
+pub mod Steps
 pub mod Examples

@@ -12,20 +12,7 @@ use Rattle.instruction_set.specs.declared.SomeRegister.the-variants as reg
 use Rattle.instruction_set.specs.declared.SomeScale.{SomeScale}
 use Rattle.instruction_set.specs.declared.SomeScale.the-variants as by
 use Rattle.machine_state.specs.Machine.{readReg}
-use Rattle.machine_state.specs.declared.Address.{Address}
-use Rattle.machine_state.specs.declared.Address.the-variants as at
 use Rattle.machine_state.specs.declared.MachineState.{MachineState}
-use Rattle.machine_state.specs.declared.Refusal.{Refusal}
-use Rattle.machine_state.specs.declared.Refusal.the-variants.{NotAnAddress, NoScale}
-
--- 01's number and values of each answer
-abbrev pub numberOf : Refusal → ℕ
-numberOf NotAnAddress = 1
-numberOf NoScale = 3
-
-abbrev pub addressOutcome : Address → Outcome ℕ
-addressOutcome (at.At a) = gives (a ∷ [])
-addressOutcome (at.Refused r) = refuses (numberOf r)
 
 -- "Registers are read as in the table; absent parts count 0"
 abbrev pub baseOf : MachineState → SomeRegister → ℕ

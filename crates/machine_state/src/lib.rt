@@ -11,7 +11,8 @@ use instruction_set::SomeScale;
 ghost use mathlib.Core.Path.{_≡_};
 ghost use Rattle.machine_state.specs.Machine.{newMachine, readReg, writeReg, eventOf, changed};
 ghost use Rattle.machine_state.specs.Flagged.{flagIn, setFlag, computeFlags};
-ghost use Rattle.machine_state.specs.Address.{baseOf, addressOf, addressOutcome};
+ghost use Rattle.machine_state.specs.Address.{baseOf, addressOf};
+ghost use Rattle.machine_state.specs.Answers.{addressOutcome};
 ghost use Rattle.machine_state.specs.declared.Event.the-variants.{Quiet};
 
 // Parents are numbered as in 01. CR0 is the first whose write gives an event.
@@ -37,15 +38,35 @@ pub struct Changed {
     pub event: Event,
 }
 
+// 1, 2 and 3 of 01's table, and those of memory.
 pub enum Refusal {
     NotAnAddress,
+    IntoImmediate,
     NoScale,
+    Memory(mmu::Refusal),
 }
 
 pub enum Address {
     At(u64),
     Refused(Refusal),
 }
+
+// What a call that reaches memory, or may, answers.
+pub enum Answer {
+    Done,
+    Value(u64),
+    Truth(bool),
+    Refused(Refusal),
+}
+
+pub struct Answered {
+    pub machine: MachineState,
+    pub used: usize,
+    pub event: Event,
+    pub answer: Answer,
+}
+
+mod memory; // memory.rt: memory calls, operand values and the stack
 
 impl MachineState {
     pub fn new() -> MachineState

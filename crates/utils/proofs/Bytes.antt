@@ -5,7 +5,7 @@ use mathlib.Core.List.{List, [], _∷_, _++_}
 use Prim.Native.Nat.{ℕ, zero, suc, _+_, _*_, _/_, _%_, _^_, _<_, _≤_}
 use native.Mathlib.Nat.{mod-one, div-one}
 use native.Mathlib.Omega.{arith}
-use lib.ListN.{length, getD, drop, replicate, drop-of-length-le}
+use lib.ListN.{length, getD, take, drop, replicate, drop-of-length-le}
 use lib.Pow.{mod-pow-add, shr-shr}
 use Rattle.utils.specs.Bytes.{toBytes, fromBytes}
 use Rattle.utils.specs.Word.{cut, lane}
@@ -56,3 +56,14 @@ from-eight bs h =
 pub to-eight : (x : ℕ) → x % 256 ∷ x / 256 % 256 ∷ x / 65536 % 256 ∷ x / 16777216 % 256 ∷ x / 4294967296 % 256 ∷ x / 1099511627776 % 256 ∷ x / 281474976710656 % 256 ∷ x / 72057594037927936 % 256 ∷ [] ≡ toBytes 8 x
 unfolding toBytes
 to-eight x = rw (shr-shr x 8 8, shr-shr x 16 8, shr-shr x 24 8, shr-shr x 32 8, shr-shr x 40 8, shr-shr x 48 8)
+
+take-zero : (l : List ℕ) → take 0 l ≡ []
+take-zero [] = refl
+take-zero (x ∷ l) = refl
+
+-- fewer bytes of the same number
+pub take-toBytes : (n k x : ℕ) → n ≤ k → take n (toBytes k x) ≡ toBytes n x
+unfolding toBytes
+take-toBytes zero k x h = take-zero (toBytes k x)
+take-toBytes (suc n) zero x h = absurd (omega arith)
+take-toBytes (suc n) (suc k) x h = ap (λ (l : List ℕ). x % 2 ^ 8 ∷ l) (take-toBytes n k (x / 2 ^ 8) (omega arith))

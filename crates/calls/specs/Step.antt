@@ -1,0 +1,43 @@
+-- What a call of 01's table does to a machine, a store and the bytes lent to it: put together from the definitions that the methods' contracts cite.
+-- It knows nothing of the table's rows; those are proved of it (crate exposed).
+use mathlib.Core.List.{List, [], _∷_}
+use Prim.Native.Nat.{ℕ}
+use Rattle.utils.specs.Outcome.{Outcome, gives}
+use Rattle.mmu.specs.Store.{Store}
+use Rattle.machine_state.specs.Address.{addressOf}
+use Rattle.machine_state.specs.Answers.{Value, word, truth, After}
+use Rattle.machine_state.specs.Flagged.{flagIn, setFlag, computeFlags}
+use Rattle.machine_state.specs.Memory.{after, passed, readMemory, writeMemory, readOperand, writeOperand, pushed, popped}
+use Rattle.machine_state.specs.declared.Address.{Address}
+use Rattle.machine_state.specs.declared.Address.the-variants as at
+use Rattle.machine_state.specs.declared.Answer.{Answer}
+use Rattle.machine_state.specs.declared.Answer.the-variants as answer
+use Rattle.machine_state.specs.declared.Answered.{Answered}
+use Rattle.machine_state.specs.declared.Event.the-variants.{Quiet}
+use Rattle.machine_state.specs.declared.MachineState.{MachineState}
+use Rattle.calls.specs.declared.Call.{Call}
+use Rattle.calls.specs.declared.Call.the-variants.{ReadOperand, WriteOperand, EffectiveAddress, Push, Pop, ReadMemory, WriteMemory, TestFlag, SetFlag, ComputeFlags}
+
+-- a call that lends no bytes leaves those that stand beside it
+abbrev pub beside : List ℕ → After → After
+beside l r = after (r .machine) (r .store) l (r .event) (r .outcome)
+
+unfoldable pub step : Call → MachineState → Store → List ℕ → After
+step (ReadOperand a z) m s l = beside l (readOperand m s a z)
+step (WriteOperand a z v) m s l = beside l (writeOperand m s a z v)
+step (EffectiveAddress a) m s l = after m s l Quiet (passed (addressOf m a))
+step Push m s l = pushed m s l
+step Pop m s l = beside l (popped m s)
+step (ReadMemory a) m s l = readMemory m s a l
+step (WriteMemory a) m s l = writeMemory m s a l
+step (TestFlag f) m s l = after m s l Quiet (gives (truth (flagIn m f) ∷ []))
+step (SetFlag f b) m s l = after (setFlag m f b) s l Quiet (gives [])
+step (ComputeFlags x z) m s l = after (computeFlags m x z) s l Quiet (gives [])
+
+-- ---- what only private functions' contracts cite
+abbrev pub addressAnswer : Address → Answer
+addressAnswer (at.At a) = answer.Value a
+addressAnswer (at.Refused r) = answer.Refused r
+
+abbrev pub kept : MachineState → ℕ → Answer → Answered
+kept m u a = record { machine = m; used = u; event = Quiet; answer = a }

@@ -1,0 +1,112 @@
+// Every call of 01's table as one value, and the function that carries one out. Below is machine_state, whose methods do the work; above are
+// exposed, which says which places a call reads and rewrites, and the programs that read calls from outside.
+// Document 01: "Places and calls". The arguments of a call are fixed in its value; the bytes that push and write memory write, and the buffer that
+// read memory fills, are lent beside it.
+use instruction_set::ArgumentSize;
+use instruction_set::Flags;
+use instruction_set::InstructionArgument;
+use machine_state::Address;
+use machine_state::Answer;
+use machine_state::Answered;
+use machine_state::Event;
+use machine_state::MachineState;
+ghost use mathlib.Core.Path.{_≡_};
+ghost use Rattle.mmu.specs.Store.{storeOf};
+ghost use Rattle.machine_state.specs.Answers.{left};
+ghost use Rattle.calls.specs.Step.{step, addressAnswer, kept};
+
+pub enum Call {
+    ReadOperand {
+        argument: InstructionArgument,
+        size: ArgumentSize,
+    },
+    WriteOperand {
+        argument: InstructionArgument,
+        size: ArgumentSize,
+        value: u64,
+    },
+    EffectiveAddress {
+        argument: InstructionArgument,
+    },
+    Push,
+    Pop,
+    ReadMemory {
+        address: u64,
+    },
+    WriteMemory {
+        address: u64,
+    },
+    TestFlag {
+        flag: Flags,
+    },
+    SetFlag {
+        flag: Flags,
+        value: bool,
+    },
+    ComputeFlags {
+        result: u64,
+        size: ArgumentSize,
+    },
+}
+
+fn address_answer(address: Address) -> Answer
+    ensures { λ r. ⌜ r ≡ addressAnswer address ⌝ }
+{
+    match address {
+        Address::At(at) => Answer::Value(at),
+        Address::Refused(why) => Answer::Refused(why),
+    }
+}
+
+// The machine as it is now, with no event and the count as it was.
+fn keep(machine: MachineState, used: usize, answer: Answer) -> Answered
+    ensures { λ r. ⌜ r ≡ kept machine used answer ⌝ }
+{
+    Answered {
+        machine,
+        used,
+        event: Event::Quiet,
+        answer,
+    }
+}
+
+// Carries out one call on a machine and a lent store.
+pub fn perform(
+    call: Call,
+    lent: &mut [u8],
+    machine: MachineState,
+    dir: &mut [u64],
+    bytes: &mut [u8],
+    used: usize,
+) -> Answered
+    ensures { λ r. ⌜ left r (now (dir .exit)) (now (bytes .exit)) (now (lent .exit))
+        ≡ step call machine (storeOf (now (dir .entry)) (now (bytes .entry)) used) (now (lent .entry)) ⌝ }
+{
+    match call {
+        Call::ReadOperand { argument, size } => machine.get_value(argument, size, dir, bytes, used),
+        Call::WriteOperand {
+            argument,
+            size,
+            value,
+        } => machine.set_value(value, argument, size, dir, bytes, used),
+        Call::EffectiveAddress { argument } => {
+            let address = machine.calculate_effective_address(argument);
+            keep(machine, used, address_answer(address))
+        }
+        Call::Push => machine.stack_push(lent, dir, bytes, used),
+        Call::Pop => machine.stack_pop(dir, bytes, used),
+        Call::ReadMemory { address } => machine.mem_read(address, lent, dir, bytes, used),
+        Call::WriteMemory { address } => machine.mem_write(address, lent, dir, bytes, used),
+        Call::TestFlag { flag } => keep(machine, used, Answer::Truth(machine.get_flag(flag))),
+        Call::SetFlag { flag, value } => keep(
+            machine.set_flag(flag, value).machine,
+            used,
+            Answer::Done,
+        ),
+        Call::ComputeFlags { result, size } => keep(
+            machine.compute_flags(result, size).machine,
+            used,
+            Answer::Done,
+        ),
+    }
+}

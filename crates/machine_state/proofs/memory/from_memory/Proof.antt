@@ -1,0 +1,13 @@
+-- `machine_state::memory::from_memory` meets its contract: each arm is the definition's clause. Assumes nothing.
+use borrow.Author.Needs.{needs}
+use Rattle.machine_state.proofs.memory.from_memory.Statement.{statement}
+use Rattle.machine_state.proofs.memory.from_memory.Tie as tie
+
+pub from-memory-spec : {M : Type 1} → statement M
+from-memory-spec =
+    tie.close
+    (tie.spec
+    (λ c. search needs)
+    (λ c. search needs)
+    (λ c. search needs)
+    (λ c. rw (c .before .answer .given .1)))

@@ -1,0 +1,196 @@
+-- The answers: that an outcome tells its answer, which outcome each case has, when a write is accepted, and what is shown.
+-- Each law is a reading of a definition by its tests.
+use mathlib.Core.Path.{_≡_, refl, sym, ap, _∙_}
+use mathlib.Core.Bool.{Bool, true, false, cond}
+use mathlib.Core.List.{List, [], _∷_}
+use Prim.Native.Nat.{ℕ, _%_, _<_, _≤_}
+use native.Mathlib.Omega.{arith}
+use lib.Dec.{leb}
+use lib.ListN.{length, getD}
+use borrow.Author.Tests.{leb-true, le-leb, lt-leb, eq-eqb, ne-eqb}
+use Rattle.utils.specs.Outcome.{Outcome, gives, refuses}
+use Rattle.mmu.specs.Store.{Store, storeOf, sound, live, unused, tabulate, readAt, written, touched, absentOf}
+use Rattle.mmu.specs.Walk.{physical}
+use Rattle.mmu.specs.Calls.{numberOf, outcomeOf, readOutcome, readOut, writeOutcome, writeStore, byteOf, cell, shownAt, shownOf, Wrote}
+use Rattle.mmu.specs.Parts.{Fits, RefusedFor}
+use Rattle.mmu.specs.declared.Refusal.{Refusal}
+use Rattle.mmu.specs.declared.Refusal.the-variants.{BadStore, TooLong, NoRoom}
+use Rattle.mmu.specs.declared.Answer.{Answer}
+use Rattle.mmu.specs.declared.Answer.the-variants.{Done, Refused}
+use Rattle.mmu.specs.declared.Shown.{Shown}
+use Rattle.mmu.specs.declared.Shown.the-variants.{Nothing as Dark, Byte}
+use Rattle.mmu.specs.declared.Written.{Written}
+use Rattle.mmu.proofs.Read.{sound-facts}
+
+-- ---- an outcome tells its answer
+refusal-one : (a b : Refusal) → numberOf a ≡ numberOf b → a ≡ b
+refusal-one BadStore BadStore e = refl
+refusal-one BadStore TooLong e = absurd (omega arith)
+refusal-one BadStore NoRoom e = absurd (omega arith)
+refusal-one TooLong BadStore e = absurd (omega arith)
+refusal-one TooLong TooLong e = refl
+refusal-one TooLong NoRoom e = absurd (omega arith)
+refusal-one NoRoom BadStore e = absurd (omega arith)
+refusal-one NoRoom TooLong e = absurd (omega arith)
+refusal-one NoRoom NoRoom e = refl
+
+number-some : (a : Refusal) → 1 ≤ numberOf a
+number-some BadStore = omega arith
+number-some TooLong = omega arith
+number-some NoRoom = omega arith
+
+pub outcome-one : (a b : Answer) → outcomeOf a ≡ outcomeOf b → a ≡ b
+outcome-one Done Done e = refl
+outcome-one Done (Refused b) e = absurd (omega (arith, number-some b, ap (λ (o : Outcome ℕ). o .number) e))
+outcome-one (Refused a) Done e = absurd (omega (arith, number-some a, ap (λ (o : Outcome ℕ). o .number) e))
+outcome-one (Refused a) (Refused b) e = ap Refused (refusal-one a b (ap (λ (o : Outcome ℕ). o .number) e))
+
+-- ---- a read
+pub read-bad : (s : Store) (n : ℕ) → sound s ≡ false → readOutcome s n ≡ refuses 4
+unfolding readOutcome
+read-bad s n e = rw e
+
+pub read-long : (s : Store) (n : ℕ) → sound s ≡ true → 4096 < n → readOutcome s n ≡ refuses 5
+unfolding readOutcome
+read-long s n e h = rw (e, lt-leb n 4096 h)
+
+pub read-done : (s : Store) (n : ℕ) → sound s ≡ true → n ≤ 4096 → readOutcome s n ≡ gives []
+unfolding readOutcome
+read-done s n e h = rw (e, le-leb n 4096 h)
+
+-- a refused read leaves the buffer, an accepted one fills it
+pub out-refused : (s : Store) (cr3 a n : ℕ) (out : List ℕ) → 1 ≤ n → readOutcome s (length out) ≡ refuses n → readOut s cr3 a out ≡ out
+unfolding readOut
+out-refused s cr3 a n out h e = rw e (rw (ne-eqb n 0 (λ q. omega arith)))
+
+pub out-done : (s : Store) (cr3 a : ℕ) (out : List ℕ) → readOutcome s (length out) ≡ gives [] → readOut s cr3 a out ≡ readAt s (physical s cr3 a) (length out)
+unfolding readOut
+out-done s cr3 a out e = rw e
+
+pub read-empty : (s : Store) (p : ℕ) (out : List ℕ) → length out ≡ 0 → out ≡ readAt s p (length out)
+unfolding readAt tabulate
+read-empty s p [] e = refl
+read-empty s p (b ∷ out) e = absurd (omega arith)
+
+-- ---- a write: the outcome of each case
+pub write-bad : (s : Store) (p n : ℕ) → sound s ≡ false → writeOutcome s p n ≡ refuses 4
+unfolding writeOutcome
+write-bad s p n e = rw e
+
+pub write-long : (s : Store) (p n : ℕ) → sound s ≡ true → 4096 < n → writeOutcome s p n ≡ refuses 5
+unfolding writeOutcome
+write-long s p n e h = rw (e, lt-leb n 4096 h)
+
+pub write-full : (s : Store) (p n : ℕ) → sound s ≡ true → n ≤ 4096 → unused s < absentOf (live s) (touched p n) → writeOutcome s p n ≡ refuses 6
+unfolding writeOutcome
+write-full s p n e b r = rw (e, le-leb n 4096 b, lt-leb _ _ r)
+
+pub write-done : (s : Store) (p n : ℕ) → sound s ≡ true → n ≤ 4096 → absentOf (live s) (touched p n) ≤ unused s → writeOutcome s p n ≡ gives []
+unfolding writeOutcome
+write-done s p n e b r = rw (e, le-leb n 4096 b, le-leb _ _ r)
+
+pub write-empty : (s : Store) (p n : ℕ) → sound s ≡ true → n ≡ 0 → writeOutcome s p n ≡ gives []
+write-empty s p n e z = write-done s p n e (omega arith) (rw z (let q : absentOf (live s) (touched p 0) ≡ 0 = unfold touched absentOf in refl in omega arith))
+
+-- accepted exactly when: a sound store, at most 4,096 bytes, and no more absent pages than unused slots
+pub record Accepted (s : Store) (p n : ℕ) : Type 0 where
+  pub sound : sound s ≡ true
+  pub short : n ≤ 4096
+  pub room : absentOf (live s) (touched p n) ≤ unused s
+
+pub accepts-if : (s : Store) (p n : ℕ) → Accepted s p n → writeOutcome s p n ≡ gives []
+accepts-if s p n a = write-done s p n (a .sound) (a .short) (a .room)
+
+pub accepts-only : (s : Store) (p n : ℕ) → writeOutcome s p n ≡ gives [] → Accepted s p n
+unfolding writeOutcome
+accepts-only s p n e = go (sound s) refl (leb n 4096) refl (leb (absentOf (live s) (touched p n)) (unused s)) refl (ap (λ (o : Outcome ℕ). o .number) e)
+  where
+    go : (a : Bool) → sound s ≡ a → (b : Bool) → leb n 4096 ≡ b → (c : Bool) → leb (absentOf (live s) (touched p n)) (unused s) ≡ c
+        → cond a (cond b (cond c (gives []) (outcomeOf (Refused NoRoom))) (refuses 5)) (refuses 4) .number ≡ 0 → Accepted s p n
+    go true x true y true z w = record { sound = x; short = leb-true _ _ y; room = leb-true _ _ z }
+    go true x true y false z w = absurd (omega arith)
+    go true x false y c z w = absurd (omega arith)
+    go false x b y c z w = absurd (omega arith)
+
+pub accepted-fits : (s : Store) (p n : ℕ) → Accepted s p n → Fits s p n
+accepted-fits s p n a = let h = sound-facts s (a .sound) in record { sound = h; room = omega (arith, h .fits, a .room) }
+
+-- ---- a write: the store afterwards
+pub store-done : (s : Store) (p : ℕ) (d : List ℕ) → writeOutcome s p (length d) ≡ gives [] → writeStore s p d ≡ written s p (byteOf d) (length d)
+unfolding writeStore
+store-done s p d e = rw e
+
+-- a refused write changes nothing, and shows nothing
+pub store-refused : (s : Store) (p n : ℕ) (d : List ℕ) → 1 ≤ n → writeOutcome s p (length d) ≡ refuses n → writeStore s p d ≡ s
+unfolding writeStore
+store-refused s p n d h e = rw e (rw (ne-eqb n 0 (λ q. omega arith)))
+
+pub dark-refused : (s : Store) (p n : ℕ) (d : List ℕ) → 1 ≤ n → writeOutcome s p (length d) ≡ refuses n → shownOf s p d ≡ Dark
+unfolding shownOf
+dark-refused s p n d h e = rw e (rw (ne-eqb n 0 (λ q. omega arith)))
+
+shown-done : (s : Store) (p : ℕ) (d : List ℕ) → writeOutcome s p (length d) ≡ gives [] → shownOf s p d ≡ shownAt p d
+unfolding shownOf
+shown-done s p d e = rw e
+
+-- ---- what the screen shows
+pub cell-low : (p : ℕ) → p < 0xB8000 → cell p ≡ false
+unfolding cell
+cell-low p h = rw (lt-leb 0xB8000 p h)
+
+pub cell-high : (p : ℕ) → 0xB8000 ≤ p → 0xB8FA0 < p → cell p ≡ false
+unfolding cell
+cell-high p g h = rw (le-leb 0xB8000 p g, lt-leb p 0xB8FA0 h)
+
+pub cell-odd : (p : ℕ) → 0xB8000 ≤ p → p ≤ 0xB8FA0 → (p % 2 ≡ 0 → ⊥) → cell p ≡ false
+unfolding cell
+cell-odd p g h o = rw (le-leb 0xB8000 p g, le-leb p 0xB8FA0 h, ne-eqb (p % 2) 0 o)
+
+pub cell-on : (p : ℕ) → 0xB8000 ≤ p → p ≤ 0xB8FA0 → p % 2 ≡ 0 → cell p ≡ true
+unfolding cell
+cell-on p g h o = rw (le-leb 0xB8000 p g, le-leb p 0xB8FA0 h, eq-eqb (p % 2) 0 o)
+
+pub shown-off : (p : ℕ) (d : List ℕ) → cell p ≡ false → Dark ≡ shownAt p d
+unfolding shownAt
+shown-off p [] e = refl
+shown-off p (b ∷ d) e = rw e
+
+pub shown-on : (p : ℕ) (d : List ℕ) → 1 ≤ length d → cell p ≡ true → Byte (getD d 0 0) ≡ shownAt p d
+unfolding shownAt
+shown-on p [] h e = absurd (omega arith)
+shown-on p (b ∷ d) h e = rw e
+
+shown-empty : (p : ℕ) (d : List ℕ) → length d ≡ 0 → Dark ≡ shownAt p d
+unfolding shownAt
+shown-empty p [] h = refl
+shown-empty p (b ∷ d) h = absurd (omega arith)
+
+-- ---- all that a write owes, from what the code's steps give
+pub wrote-refused : (s : Store) (cr3 a : ℕ) (d : List ℕ) (r : Refusal) → writeOutcome s (physical s cr3 a) (length d) ≡ refuses (numberOf r) → Wrote s s cr3 a d (Refused r) Dark
+wrote-refused s cr3 a d r e =
+    let n = number-some r in
+    record { answer = sym e; shown = sym (dark-refused s (physical s cr3 a) (numberOf r) d n e); store = sym (store-refused s (physical s cr3 a) (numberOf r) d n e) }
+
+pub wrote-done : (s t : Store) (cr3 a p : ℕ) (d : List ℕ) (e : Shown) → p ≡ physical s cr3 a → writeOutcome s p (length d) ≡ gives []
+    → t ≡ written s p (byteOf d) (length d) → e ≡ shownAt p d → Wrote s t cr3 a d Done e
+wrote-done s t cr3 a p d e q o et ee =
+    let o′ : writeOutcome s (physical s cr3 a) (length d) ≡ gives [] = rw (sym q) o in
+    record {
+      answer = sym o′;
+      shown = ee ∙ ap (λ (x : ℕ). shownAt x d) q ∙ sym (shown-done s (physical s cr3 a) d o′);
+      store = et ∙ ap (λ (x : ℕ). written s x (byteOf d) (length d)) q ∙ sym (store-done s (physical s cr3 a) d o′);
+    }
+
+-- length 0: accepted with no walk, and nothing changes
+pub wrote-empty : (s : Store) (cr3 a : ℕ) (d : List ℕ) → sound s ≡ true → length d ≡ 0 → Wrote s s cr3 a d Done Dark
+wrote-empty s cr3 a d e z =
+    wrote-done s s cr3 a (physical s cr3 a) d Dark refl (write-empty s (physical s cr3 a) (length d) e z) (rw z (unfold written in refl)) (shown-empty (physical s cr3 a) d z)
+
+-- ---- a write's contract leaves no choice
+pub wrote-one : (s t t′ : Store) (cr3 a : ℕ) (d : List ℕ) (r r′ : Answer) (e e′ : Shown) → Wrote s t cr3 a d r e → Wrote s t′ cr3 a d r′ e′ → (r ≡ r′) × (e ≡ e′) × (t ≡ t′)
+wrote-one s t t′ cr3 a d r r′ e e′ w w′ = (outcome-one r r′ (w .answer ∙ sym (w′ .answer)), w .shown ∙ sym (w′ .shown), w .store ∙ sym (w′ .store))
+
+-- the answer of a refused write, as the code hands it back
+pub wrote-refused-for : (s : Store) (cr3 a : ℕ) (d : List ℕ) (r : Refusal) (w : Written) → RefusedFor w r (s .used)
+    → writeOutcome s (physical s cr3 a) (length d) ≡ refuses (numberOf r) → Wrote s (storeOf (s .dir) (s .bytes) (w .used)) cr3 a d (w .answer) (w .shown)
+wrote-refused-for s cr3 a d r w h e = rw (h .answer, h .count, h .dark) (wrote-refused s cr3 a d r e)

@@ -1,0 +1,80 @@
+-- One turn of each loop over pages: where the access stands then, and how a part joins those before it, for a read, for a write and for the count of absent pages.
+-- The idea: a part is `filled` or `written` from the function "byte k of the access", so that parts end to end are one (Fill.filled-add, Slot.written-add).
+use mathlib.Core.Path.{_≡_, refl, ap, _∙_}
+use mathlib.Core.List.{List}
+use Prim.Native.Nat.{ℕ, zero, suc, _+_, _-_, _*_, _/_, _%_, _<_, _≤_}
+use native.Mathlib.Nat.{zero-add, add-assoc}
+use native.Mathlib.Omega.{arith}
+use lib.ListN.{length}
+use Rattle.mmu.specs.Store.{Store, live, foundIn, lack, readAt, filled, written, pagesFrom, touched, absentOf}
+use Rattle.mmu.specs.Calls.{byteOf}
+use Rattle.mmu.specs.Parts.{Fits, Ready, Part, Reached, bytesOf, bytesFrom}
+use Rattle.mmu.proofs.Fill.{filled-ext, filled-add, filled-all}
+use Rattle.mmu.proofs.Slot.{written-add}
+use Rattle.mmu.proofs.Growth.{written-count, absent-upto, room-at, still}
+
+-- ---- where an access stands, page by page
+pub reached-first : (p len : ℕ) → Reached p len (p / 4096) (p % 4096) 0
+reached-first p len = record { within = omega arith; inside = omega arith; place = λ h. omega arith }
+
+pub reached-next : (p len g off done n : ℕ) → Reached p len g off done → done < len → Part off (len - done) n → Reached p len (g + 1) 0 (done + n)
+reached-next p len g off done n r lt q =
+    let e = r .place lt in
+    record {
+      within = omega (arith, q .within);
+      inside = omega arith;
+      place = λ h. omega (arith, q .full (omega arith));
+    }
+
+-- ---- a read
+pub read-step : (s : Store) (p : ℕ) (out₀ out o : List ℕ) (g off done n : ℕ) → 4096 * g + off ≡ p + done → out ≡ filled out₀ 0 (bytesFrom s p) done
+    → o ≡ filled out done (bytesFrom s (4096 * g + off)) n → o ≡ filled out₀ 0 (bytesFrom s p) (done + n)
+read-step s p out₀ out o g off done n e eo e′ =
+    e′ ∙ rw (e, eo)
+    (filled-ext (filled out₀ 0 (bytesFrom s p) done) done (bytesFrom s (p + done)) (λ (k : ℕ). bytesFrom s p (done + k)) n (λ k lt. rw (add-assoc p done k))
+    ∙ (rw (zero-add done) at (filled-add out₀ 0 (bytesFrom s p) done n)))
+
+pub read-end : (s : Store) (p : ℕ) (out₀ o : List ℕ) (done : ℕ) → done ≡ length out₀ → o ≡ filled out₀ 0 (bytesFrom s p) done → o ≡ readAt s p (length out₀)
+unfolding readAt
+read-end s p out₀ o done e eo = eo ∙ rw e (filled-all out₀ (bytesFrom s p) (length out₀) refl)
+
+-- ---- the count of absent pages
+pub touched-pages : (p n : ℕ) → 1 ≤ n → touched p n ≡ pagesFrom (p / 4096) ((p % 4096 + n - 1) / 4096 + 1)
+unfolding touched
+touched-pages p zero h = absurd (omega arith)
+touched-pages p (suc m) h = ap (pagesFrom (p / 4096)) (omega arith)
+
+pub pages-turn : (l : List ℕ) (g left : ℕ) → 0 < left → absentOf l (pagesFrom g left) ≡ lack (foundIn l g) + absentOf l (pagesFrom (g + 1) (left - 1))
+unfolding pagesFrom absentOf
+pages-turn l g zero h = absurd (omega arith)
+pages-turn l g (suc k) h = let e : suc k - 1 ≡ k = omega arith in rw e
+
+pub pages-none : (l : List ℕ) (g left : ℕ) → left ≡ 0 → absentOf l (pagesFrom g left) ≡ 0
+pages-none l g left e = rw e (unfold pagesFrom absentOf in refl)
+
+-- ---- a write
+-- there is room for the part of the page that the write has reached
+pub ready-part : (s : Store) (p : ℕ) (f : ℕ → ℕ) (len g off done n : ℕ) → Fits s p len → Reached p len g off done → done < len → Part off (len - done) n
+    → Ready (written s p f done) g off n done len
+ready-part s p f len g off done n h r lt q =
+    let e = r .place lt in
+    let up = absent-upto s (h .sound) p f (suc done) (len - suc done) in
+    let le : suc done + (len - suc done) ≡ len = omega arith in
+    let more : s .used + absentOf (live s) (touched p (suc done)) ≤ length (s .dir) = omega (arith, h .room, rw le at up) in
+    let now : written s p f (suc done) .used ≤ length (s .dir) = omega (arith, written-count s (h .sound) p f (suc done) more) in
+    let before = absent-upto s (h .sound) p f done 1 in
+    let one : done + 1 ≡ suc done = omega arith in
+    let less : s .used + absentOf (live s) (touched p done) ≤ length (s .dir) = omega (arith, rw one at before) in
+    let t = still s (h .sound) p f done (omega (arith, written-count s (h .sound) p f done less)) in
+    let d : (p + done) / 4096 ≡ g = omega (arith, r .inside) in
+    record {
+      sound = t .sound;
+      room = rw d at (room-at s (h .sound) p f done now t);
+      some = q .some;
+      inside = q .inside;
+      given = omega (arith, q .within);
+    }
+
+pub write-step : (s t u : Store) (p : ℕ) (d : List ℕ) (g off done n : ℕ) → 4096 * g + off ≡ p + done → t ≡ written s p (byteOf d) done
+    → u ≡ written t (4096 * g + off) (bytesOf d done) n → u ≡ written s p (byteOf d) (done + n)
+write-step s t u p d g off done n e et eu = eu ∙ rw (e, et) (written-add s p (byteOf d) done n)

@@ -1,0 +1,18 @@
+-- `entry_place` gives `entryPlace`: a shift and a remainder are the field of nine bits.
+use Rattle.utils.specs.Word.{cut}
+use Rattle.mmu.specs.Walk.{entryPlace}
+use borrow.Author.Needs.{needs}
+use Rattle.mmu.proofs.walk.entry_place.Statement.{statement}
+use Rattle.mmu.proofs.walk.entry_place.Tie as tie
+
+pub entry-place-spec : {M : Type 1} → statement M
+unfolding entryPlace cut
+entry-place-spec =
+    tie.close
+    (tie.spec
+    (λ c. search needs)
+    (λ c. search needs)
+    (λ c. search needs)
+    (λ c. search needs)
+    (λ c κs. search needs)
+    (λ c. c .wrapping-add-u64 .ensures))

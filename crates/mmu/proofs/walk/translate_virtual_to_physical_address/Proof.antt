@@ -1,0 +1,14 @@
+-- The translation gives `physical`.
+use Rattle.mmu.proofs.Walked.{physical-off, physical-on}
+use mathlib.Core.Path.{sym, _∙_}
+use borrow.Author.Needs.{needs}
+use Rattle.mmu.proofs.walk.translate_virtual_to_physical_address.Statement.{statement}
+use Rattle.mmu.proofs.walk.translate_virtual_to_physical_address.Tie as tie
+
+pub translate-virtual-to-physical-address-spec : {M : Type 1} → statement M
+translate-virtual-to-physical-address-spec =
+    tie.close
+    (tie.spec
+    (λ c. sym (physical-off _ _ _ (c .if1 .taken)))
+    (λ c κs. search needs)
+    (λ c. c .walk .ensures ∙ sym (physical-on _ _ _ (c .before .if1 .left))))

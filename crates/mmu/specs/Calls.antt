@@ -1,0 +1,92 @@
+-- What the public calls owe: each answer's number, the lent bytes afterwards, the store, and what is shown on the screen. Written from 01, "Refusal numbers" and
+-- "Addresses, pages, walk"; every contract is an equation with one of these, so that no two outcomes satisfy it.
+use mathlib.Core.Path.{_≡_}
+use mathlib.Core.Bool.{Bool, true, cond, _&&_}
+use mathlib.Core.List.{List, [], _∷_}
+use Prim.Native.Nat.{ℕ, _*_, _%_}
+use lib.Dec.{leb, eqb}
+use lib.ListN.{length, getD, take, drop}
+use Rattle.utils.specs.Outcome.{Outcome, gives, refuses}
+use Rattle.mmu.specs.Store.{Store, sound, live, unused, foundIn, readAt, written, touched, absentOf}
+use Rattle.mmu.specs.Walk.{physical}
+use Rattle.mmu.specs.declared.Found.{Found}
+use Rattle.mmu.specs.declared.Found.the-variants.{At, Nothing}
+use Rattle.mmu.specs.declared.Refusal.{Refusal}
+use Rattle.mmu.specs.declared.Refusal.the-variants.{BadStore, TooLong, NoRoom}
+use Rattle.mmu.specs.declared.Answer.{Answer}
+use Rattle.mmu.specs.declared.Answer.the-variants.{Done, Refused}
+use Rattle.mmu.specs.declared.Shown.{Shown}
+use Rattle.mmu.specs.declared.Shown.the-variants.{Nothing as Dark, Byte}
+
+-- 01's number of each refusal, and of each answer with its values
+abbrev pub numberOf : Refusal → ℕ
+numberOf BadStore = 4
+numberOf TooLong = 5
+numberOf NoRoom = 6
+
+abbrev pub outcomeOf : Answer → Outcome ℕ
+outcomeOf Done = gives []
+outcomeOf (Refused r) = refuses (numberOf r)
+
+abbrev pub accepted : Outcome ℕ → Bool
+accepted o = eqb (o .number) 0
+
+-- a read of n bytes: 4, then 5
+unfoldable pub readOutcome : Store → ℕ → Outcome ℕ
+readOutcome s n = cond (sound s) (cond (leb n 4096) (gives []) (refuses 5)) (refuses 4)
+
+-- "A memory read fills the whole lent buffer, whose length is that of the access"; a refused one leaves it
+unfoldable pub readOut : Store → ℕ → ℕ → List ℕ → List ℕ
+readOut s cr3 a out = cond (accepted (readOutcome s (length out))) (readAt s (physical s cr3 a) (length out)) out
+
+-- a write of n bytes at physical p: 4, then 5, then 6, "a write touches more absent pages than there are unused slots"
+unfoldable pub writeOutcome : Store → ℕ → ℕ → Outcome ℕ
+writeOutcome s p n =
+    cond (sound s) (cond (leb n 4096) (cond (leb (absentOf (live s) (touched p n)) (unused s)) (gives []) (refuses 6)) (refuses 5)) (refuses 4)
+
+abbrev pub byteOf : List ℕ → ℕ → ℕ
+byteOf d k = getD d k 0
+
+-- the store after the bytes d are written at physical p; a refused write leaves it
+unfoldable pub writeStore : Store → ℕ → List ℕ → Store
+writeStore s p d = cond (accepted (writeOutcome s p (length d))) (written s p (byteOf d) (length d)) s
+
+-- "A write of at least one byte at an even physical address from 0xB8000 to 0xB8FA0, ends included, gives a video event with its first byte"
+unfoldable pub cell : ℕ → Bool
+cell p = leb 0xB8000 p && (leb p 0xB8FA0 && eqb (p % 2) 0)
+
+unfoldable pub shownAt : ℕ → List ℕ → Shown
+shownAt p [] = Dark
+shownAt p (b ∷ bs) = cond (cell p) (Byte b) Dark
+
+-- a refusal gives no event
+unfoldable pub shownOf : Store → ℕ → List ℕ → Shown
+shownOf s p d = cond (accepted (writeOutcome s p (length d))) (shownAt p d) Dark
+
+-- all that a write at address a owes: "Only an access's first byte is translated; the rest follow physically"
+pub record Wrote (s t : Store) (cr3 a : ℕ) (d : List ℕ) (r : Answer) (e : Shown) : Type 0 where
+  pub answer : outcomeOf r ≡ writeOutcome s (physical s cr3 a) (length d)
+  pub shown : e ≡ shownOf s (physical s cr3 a) d
+  pub store : t ≡ writeStore s (physical s cr3 a) d
+
+-- "A page view shows one page": refusal 4 also where the lent page "isn't 4,096 zeros"
+abbrev pub allZero : List ℕ → Bool
+allZero [] = true
+allZero (x ∷ xs) = eqb x 0 && allZero xs
+
+unfoldable pub zeroPage : List ℕ → Bool
+zeroPage z = eqb (length z) 4096 && allZero z
+
+-- "the bytes come from the store, or from a lent page of zeros if it is absent"
+abbrev pub viewIn : List ℕ → List ℕ → Found → List ℕ
+viewIn b z (At i) = take 4096 (drop (4096 * i) b)
+viewIn b z Nothing = z
+
+-- a refused view is "an empty part", and no other is
+unfoldable pub viewOf : Store → List ℕ → ℕ → List ℕ
+viewOf s z g = cond (sound s && zeroPage z) (viewIn (s .bytes) z (foundIn (live s) g)) []
+
+-- its number and values: the empty part is refusal 4
+abbrev pub viewOutcome : List ℕ → Outcome ℕ
+viewOutcome [] = refuses 4
+viewOutcome (b ∷ bs) = gives (b ∷ bs)

@@ -1,0 +1,5 @@
+pub mod Store
+pub mod Walk
+pub mod Calls
+pub mod Parts
+pub mod History
