@@ -36,15 +36,15 @@ pub fn write_part(part: Part, x: u64, value: u64) -> u64
     }
 }
 
-// A value of memory at a size: a byte is zero-extended, unlike an 8-bit register.
+// A value of memory at a size. A byte stands as it is, unlike an 8-bit register (01: "Bit8 zero-extends").
 pub fn memory_value(word: u64, size: ArgumentSize) -> u64
     ensures { λ r. ⌜ r ≡ memoryValue size word ⌝ }
 {
     match size {
-        ArgumentSize::Bit64 => word,
+        ArgumentSize::Bit64 => utils::sign_extend(word, 64),
         ArgumentSize::Bit32 => utils::sign_extend(word, 32),
         ArgumentSize::Bit16 => utils::sign_extend(word, 16),
-        ArgumentSize::Bit8 => word,
+        ArgumentSize::Bit8 => utils::sign_extend(word, 64),
     }
 }
 

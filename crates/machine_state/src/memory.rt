@@ -45,8 +45,8 @@ impl Answered {
     fn with_value(self, value: u64) -> Answered
         ensures { λ r. ⌜ r ≡ givenValue self value ⌝ }
     {
-        let answer = self.answer;
-        if let Answer::Refused(_) = answer {
+        let read = self.answer;
+        if let Answer::Refused(_) = read {
             return self;
         }
         Answered {
