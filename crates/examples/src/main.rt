@@ -1,5 +1,5 @@
 // The examples of 01 that a machine can run today, printed one to a line; `rt` compares what is written with the file stdout beside this folder.
-// The lines marked ● in 01 are proved too, in machine_state's proofs/Examples.antt.
+// The lines marked ● in 01 are proved too, in one table: promises/proofs/Table.antt.
 use instruction_set::ArgumentSize;
 use instruction_set::Flags;
 use instruction_set::InstructionArgument;

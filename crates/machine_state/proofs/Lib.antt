@@ -1,4 +1,3 @@
 pub mod Lanes
 pub mod Outcomes
 pub mod Steps
-pub mod Examples

@@ -1,0 +1,114 @@
+-- The ● examples of 01, all in one claim. The checker computes what it can; what a write leaves in a page of 4,096 bytes goes by the laws of memory.
+-- Assumes nothing.
+use mathlib.Core.List.{List, [], _∷_}
+use mathlib.Core.Logic.{inl}
+use mathlib.Core.Path.{_≡_, refl, sym, _∙_, ap, ap₂}
+use Prim.Native.Nat.{ℕ, _<_, _≤_}
+use native.Mathlib.Omega.{arith}
+use lib.Count.{ones, onesIn}
+use lib.ListN.{length, getD, replicate}
+use Rattle.utils.specs.Bytes.{fromBytes}
+use Rattle.utils.specs.Outcome.{Outcome, gives}
+use Rattle.utils.specs.Word.{cut, put, extend}
+use Rattle.instruction_set.specs.Registers.{row}
+use Rattle.instruction_set.specs.declared.ArgumentSize.the-variants.{Bit8, Bit16, Bit64}
+use Rattle.instruction_set.specs.declared.Register.the-variants.{RBX, RSP}
+use Rattle.fields.specs.FlagBits.{bitSet, putFlag, evenOnes}
+use Rattle.fields.specs.Parts.{readOf, writeOf}
+use Rattle.mmu.specs.Calls.{readOutcome, readOut, writeOutcome}
+use Rattle.mmu.specs.Store.{sound, seek, foundIn, byteAt, readAt, tabulate, pagesFrom, touched, absentOf}
+use Rattle.mmu.specs.Walk.{entryPlace, wordAt, nextTable, walked, physical}
+use Rattle.machine_state.specs.Address.{addressOf}
+use Rattle.machine_state.specs.Answers.{Value, word, After}
+use Rattle.machine_state.specs.Flagged.{computeFlags}
+use Rattle.machine_state.specs.Machine.{newMachine, readReg, writeReg}
+use Rattle.machine_state.specs.Memory.{valued, withValue, loaded, pushed, readMemory, writeMemory}
+use Rattle.promises.specs.Table.{minus, rax, operand, valuesOf, flags, eighty, twoSlots, oneSlot, pageZero, tables, eight, afterPush, afterTop, table, left, right}
+use Rattle.promises.proofs.Demand2.{reads-accepted, reads-back, others-stay, sound-after}
+
+cons : {a b : List ℕ} {xs ys : List (List ℕ)} → a ≡ b → xs ≡ ys → a ∷ xs ≡ b ∷ ys
+cons e f = ap₂ _∷_ e f
+
+-- ---- memory
+eighty-byte : valuesOf (loaded newMachine eighty 0 Bit8 .outcome .values) ≡ 128 ∷ []
+unfolding loaded readMemory readOut readOutcome sound eighty physical readAt tabulate byteAt foundIn seek fromBytes
+eighty-byte = refl
+
+eighty-word : valuesOf (loaded newMachine eighty 0 Bit16 .outcome .values) ≡ minus 32640 ∷ []
+unfolding loaded readMemory readOut readOutcome sound eighty physical readAt tabulate byteAt foundIn seek fromBytes extend
+eighty-word = refl
+
+walk : physical tables 0x1000 0x40200005 ∷ [] ≡ 0x600005 ∷ []
+unfolding tables physical walked nextTable entryPlace cut wordAt fromBytes readAt tabulate byteAt foundIn seek
+walk = refl
+
+room : writeMemory newMachine oneSlot 4095 (1 ∷ 2 ∷ []) .outcome .number ∷ writeMemory newMachine pageZero 4095 (1 ∷ 2 ∷ []) .outcome .number ∷ [] ≡ 6 ∷ 0 ∷ []
+unfolding writeMemory writeOutcome oneSlot pageZero sound physical touched pagesFrom absentOf foundIn seek
+room = refl
+
+top-fits : afterTop .outcome ≡ gives []
+unfolding writeMemory writeOutcome twoSlots sound physical touched pagesFrom absentOf foundIn seek
+top-fits = refl
+
+top : afterTop .outcome .number ∷ byteAt (afterTop .store) 0 ∷ [] ≡ 0 ∷ 0 ∷ []
+top =
+    ap₂ (λ (x y : ℕ). x ∷ y ∷ []) (ap (λ (o : Outcome Value). o .number) top-fits)
+    (others-stay newMachine twoSlots (minus 1) (1 ∷ 2 ∷ []) top-fits 0 (inl below) ∙ zero-there)
+  where
+    below : 0 < physical twoSlots 0 (minus 1)
+    below = unfold physical in omega arith
+
+    zero-there : byteAt twoSlots 0 ≡ 0
+    zero-there = unfold twoSlots byteAt foundIn seek in refl
+
+-- ---- the push
+push-fits : writeMemory newMachine twoSlots (minus 8) eight .outcome ≡ gives []
+unfolding writeMemory writeOutcome twoSlots sound physical touched pagesFrom absentOf foundIn seek
+push-fits = refl
+
+push-rsp : readReg (afterPush .machine) RSP ≡ minus 8
+unfolding pushed writeMemory writeOutcome twoSlots sound physical touched pagesFrom absentOf foundIn seek readReg readOf row cut extend
+push-rsp = refl
+
+push-store : afterPush .store ≡ writeMemory newMachine twoSlots (minus 8) eight .store
+unfolding pushed
+push-store = refl
+
+pushed-bytes : loaded newMachine (afterPush .store) (minus 8) Bit64 .outcome .values ≡ word 0x0807060504030201 ∷ []
+unfolding loaded
+pushed-bytes =
+    let t = writeMemory newMachine twoSlots (minus 8) eight .store in
+    let z = replicate {A = ℕ} 8 0 in
+    let b : readMemory newMachine t (minus 8) z .lent ≡ eight = reads-back newMachine twoSlots (minus 8) eight z push-fits refl (unfold physical in refl) in
+    let o : readMemory newMachine t (minus 8) z .outcome ≡ gives [] = reads-accepted newMachine t (minus 8) z (sound-after newMachine twoSlots (minus 8) eight push-fits) (omega arith) in
+    rw (push-store, o, b) (unfold fromBytes in refl)
+
+push : readReg (afterPush .machine) RSP ∷ valuesOf (loaded newMachine (afterPush .store) (minus 8) Bit64 .outcome .values) ≡ minus 8 ∷ 0x0807060504030201 ∷ []
+push = ap₂ {A = ℕ} {B = List Value} (λ x vs. x ∷ valuesOf vs) push-rsp pushed-bytes
+
+-- ---- registers, flags and addresses
+abbrev values : ℕ → List (List ℕ) → List ℕ
+values n ls = getD ls n []
+
+low-byte : values 0 (left table) ≡ values 0 (right table)
+unfolding readReg writeReg readOf writeOf row cut put extend
+low-byte = refl
+
+low-half : values 1 (left table) ≡ values 1 (right table)
+unfolding readReg writeReg readOf writeOf row cut put extend
+low-half = refl
+
+parts : values 2 (left table) ≡ values 2 (right table)
+unfolding readReg writeReg readOf writeOf row cut put extend
+parts = refl
+
+set : values 5 (left table) ≡ values 5 (right table)
+unfolding putFlag bitSet evenOnes ones onesIn cut put
+set = refl
+
+address : values 6 (left table) ≡ values 6 (right table)
+unfolding addressOf readReg writeReg readOf writeOf row cut put extend
+address = refl
+
+pub examples : left table ≡ right table
+examples = cons low-byte (cons low-half (cons parts (cons eighty-byte (cons eighty-word (cons set (cons address (cons push (cons top (cons walk (cons room refl))))))))))

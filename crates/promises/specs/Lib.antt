@@ -1,0 +1,3 @@
+pub mod Untouched
+pub mod Demand2
+pub mod Table

@@ -1,0 +1,103 @@
+-- The ● examples of 01, one line each: on the left what the definitions give, on the right what the paper says.
+use mathlib.Core.List.{List, [], _∷_}
+use Prim.Native.Nat.{ℕ, _-_, _^_}
+use lib.IntN.{negsuc}
+use lib.ListN.{replicate, set, getD}
+use Rattle.instruction_set.specs.declared.ArgumentSize.the-variants.{Bit8, Bit16, Bit64}
+use Rattle.instruction_set.specs.declared.Flags.the-variants.{Parity, Zero, Sign}
+use Rattle.instruction_set.specs.declared.InstructionArgument.{InstructionArgument}
+use Rattle.instruction_set.specs.declared.InstructionArgument.the-variants as arg
+use Rattle.instruction_set.specs.declared.Register.{Register}
+use Rattle.instruction_set.specs.declared.Register.the-variants.{RAX, RBX, RSP, EAX, AX, AL, AH}
+use Rattle.instruction_set.specs.declared.SomeRegister.the-variants as reg
+use Rattle.instruction_set.specs.declared.SomeScale.the-variants as by
+use Rattle.fields.specs.FlagBits.{boolBit}
+use Rattle.mmu.specs.Store.{Store, storeOf, byteAt}
+use Rattle.mmu.specs.Walk.{physical}
+use Rattle.machine_state.specs.Address.{addressOf}
+use Rattle.machine_state.specs.Answers.{Value, word, truth, After}
+use Rattle.machine_state.specs.Flagged.{flagIn, computeFlags}
+use Rattle.machine_state.specs.Machine.{newMachine, readReg, writeReg}
+use Rattle.machine_state.specs.Memory.{loaded, pushed, writeMemory}
+use Rattle.machine_state.specs.declared.MachineState.{MachineState}
+
+pub record Line : Type 0 where
+  pub computed : List ℕ
+  pub stated : List ℕ
+
+abbrev pub line : List ℕ → List ℕ → Line
+line a b = record { computed = a; stated = b }
+
+abbrev pub minus : ℕ → ℕ
+minus n = 2 ^ 64 - n
+
+-- a machine whose rax holds v
+abbrev pub rax : ℕ → MachineState
+rax v = writeReg newMachine RAX v
+
+abbrev pub reads : MachineState → List Register → List ℕ
+reads m [] = []
+reads m (r ∷ rs) = readReg m r ∷ reads m rs
+
+abbrev pub flags : MachineState → List ℕ
+flags m = boolBit (flagIn m Zero) ∷ boolBit (flagIn m Sign) ∷ boolBit (flagIn m Parity) ∷ []
+
+abbrev pub valuesOf : List Value → List ℕ
+valuesOf [] = []
+valuesOf (word v ∷ vs) = v ∷ valuesOf vs
+valuesOf (truth b ∷ vs) = boolBit b ∷ valuesOf vs
+
+-- [base + index * 8 - 8], with base rax and index rbx
+abbrev pub operand : InstructionArgument
+operand = arg.EffectiveAddress (reg.Present RAX) (reg.Present RBX) (by.Present 8) (negsuc 7)
+
+-- page 0 with bytes 80 80 at its start; an empty store with two slots, whose stale bytes are 9; one with one slot; page 0 and one slot more
+unfoldable pub eighty : Store
+eighty = storeOf (0 ∷ []) (set (set (replicate 4096 0) 0 0x80) 1 0x80) 1
+
+unfoldable pub twoSlots : Store
+twoSlots = storeOf (7 ∷ 7 ∷ []) (replicate 8192 9) 0
+
+unfoldable pub oneSlot : Store
+oneSlot = storeOf (7 ∷ []) (replicate 4096 9) 0
+
+unfoldable pub pageZero : Store
+pageZero = storeOf (0 ∷ 7 ∷ []) (replicate 8192 9) 1
+
+-- pages 1, 2, 3 with the entries 0x2003 at 0x1000, 0x3003 at 0x2008, 0x600083 at 0x3008
+unfoldable pub tables : Store
+tables = storeOf (1 ∷ 2 ∷ 3 ∷ []) (set (set (set (set (set (set (replicate 12288 0) 0 3) 1 0x20) 4104 3) 4105 0x30) 8200 0x83) 8202 0x60) 3
+
+-- what a push of eight bytes at rsp 0 leaves: rsp, and the bytes from 2^64 - 8 on
+abbrev pub eight : List ℕ
+eight = 1 ∷ 2 ∷ 3 ∷ 4 ∷ 5 ∷ 6 ∷ 7 ∷ 8 ∷ []
+
+abbrev pub afterPush : After
+afterPush = pushed newMachine twoSlots eight
+
+-- two bytes at 2^64 - 1
+abbrev pub afterTop : After
+afterTop = writeMemory newMachine twoSlots (minus 1) (1 ∷ 2 ∷ [])
+
+abbrev pub table : List Line
+table =
+    line (reads (writeReg (rax 0) AL 0x80) (RAX ∷ AL ∷ AH ∷ [])) (128 ∷ minus 128 ∷ 0 ∷ [])
+    ∷ line (reads (writeReg (rax (minus 1)) EAX (minus 1)) (RAX ∷ EAX ∷ [])) (4294967295 ∷ minus 1 ∷ [])
+    ∷ line (reads (rax 0x8000) (AH ∷ AL ∷ AX ∷ EAX ∷ [])) (minus 128 ∷ 0 ∷ minus 32768 ∷ 32768 ∷ [])
+    ∷ line (valuesOf (loaded newMachine eighty 0 Bit8 .outcome .values)) (128 ∷ [])
+    ∷ line (valuesOf (loaded newMachine eighty 0 Bit16 .outcome .values)) (minus 32640 ∷ [])
+    ∷ line (flags (computeFlags newMachine 256 Bit8)) (0 ∷ 0 ∷ 1 ∷ [])
+    ∷ line (addressOf (writeReg (rax 16) RBX (minus 1)) operand .values) (0 ∷ [])
+    ∷ line (readReg (afterPush .machine) RSP ∷ valuesOf (loaded newMachine (afterPush .store) (minus 8) Bit64 .outcome .values)) (minus 8 ∷ 0x0807060504030201 ∷ [])
+    ∷ line (afterTop .outcome .number ∷ byteAt (afterTop .store) 0 ∷ []) (0 ∷ 0 ∷ [])
+    ∷ line (physical tables 0x1000 0x40200005 ∷ []) (0x600005 ∷ [])
+    ∷ line (writeMemory newMachine oneSlot 4095 (1 ∷ 2 ∷ []) .outcome .number ∷ writeMemory newMachine pageZero 4095 (1 ∷ 2 ∷ []) .outcome .number ∷ []) (6 ∷ 0 ∷ [])
+    ∷ []
+
+abbrev pub left : List Line → List (List ℕ)
+left [] = []
+left (l ∷ ls) = l .computed ∷ left ls
+
+abbrev pub right : List Line → List (List ℕ)
+right [] = []
+right (l ∷ ls) = l .stated ∷ right ls

@@ -1,0 +1,23 @@
+-- Demand 1: "Every call takes every input. Where the Rust panics .., memory is full or another of document 01's conditions holds, its numbered
+-- refusal comes back, and machine, memory and lent buffers stay untouched." 01 adds: "A refusal yields its number, no value and no event".
+use mathlib.Core.List.{List, []}
+use mathlib.Core.Path.{_≡_}
+use Prim.Native.Nat.{ℕ}
+use Rattle.mmu.specs.Store.{Store}
+use Rattle.machine_state.specs.Answers.{After}
+use Rattle.machine_state.specs.declared.Event.the-variants.{Quiet}
+use Rattle.machine_state.specs.declared.MachineState.{MachineState}
+use Rattle.calls.specs.Step.{step}
+use Rattle.calls.specs.declared.Call.{Call}
+
+-- what a refused call leaves: everything as it was
+pub record Untouched (m : MachineState) (s : Store) (l : List ℕ) (r : After) : Type 0 where
+  pub machine : r .machine ≡ m
+  pub store : r .store ≡ s
+  pub lent : r .lent ≡ l
+  pub event : r .event ≡ Quiet
+  pub values : r .outcome .values ≡ []
+
+-- of every call of 01's table, on every machine, store and lent bytes
+abbrev pub RefusedUntouched : Type 0
+RefusedUntouched = (c : Call) (m : MachineState) (s : Store) (l : List ℕ) → (step c m s l .outcome .number ≡ 0 → ⊥) → Untouched m s l (step c m s l)
