@@ -1,108 +1,12 @@
-// The examples of 01 that a machine can run today, printed one to a line; `rt` compares what is written with the file stdout beside this folder.
-// The lines marked ● in 01 are proved too, in one table: promises/proofs/Table.antt.
-use instruction_set::ArgumentSize;
-use instruction_set::Flags;
-use instruction_set::InstructionArgument;
-use instruction_set::Register;
-use instruction_set::SomeRegister;
-use instruction_set::SomeScale;
-use libc::STDOUT_FILENO;
-use machine_state::Address;
-use machine_state::MachineState;
-
-const MINUS_ONE: u64 = 0xFFFF_FFFF_FFFF_FFFF;
-
-// A word by its signed reading, after its label.
-fn show(label: &[u8], word: u64) {
-    io::write_all(STDOUT_FILENO, label);
-    if word < 0x8000_0000_0000_0000 {
-        io::print_decimal(STDOUT_FILENO, word);
-        return;
-    }
-    io::write_all(STDOUT_FILENO, b"-");
-    io::print_decimal(STDOUT_FILENO, std::num::wrapping_sub_u64(0, word));
-}
-
-fn show_flag(label: &[u8], set: bool) {
-    io::write_all(STDOUT_FILENO, label);
-    if set {
-        io::write_all(STDOUT_FILENO, b"set");
-        return;
-    }
-    io::write_all(STDOUT_FILENO, b"clear");
-}
-
-fn end() {
-    io::write_all(STDOUT_FILENO, b"\n");
-}
-
-fn with(register: Register, value: u64) -> MachineState {
-    MachineState::new()
-        .set_register_value(register, value)
-        .machine
-}
-
-fn low_byte() {
-    let m = with(Register::AL, 0x80);
-    show(
-        b"rax 0, write AL 0x80: rax ",
-        m.get_register_value(Register::RAX),
-    );
-    show(b", AL ", m.get_register_value(Register::AL));
-    show(b", AH ", m.get_register_value(Register::AH));
-    end();
-}
-
-fn low_half() {
-    let whole = with(Register::RAX, MINUS_ONE);
-    let m = whole.set_register_value(Register::EAX, MINUS_ONE).machine;
-    show(
-        b"rax -1, write EAX -1: rax ",
-        m.get_register_value(Register::RAX),
-    );
-    show(b", EAX ", m.get_register_value(Register::EAX));
-    end();
-}
-
-fn parts() {
-    let m = with(Register::RAX, 0x8000);
-    show(b"rax 0x8000: AH ", m.get_register_value(Register::AH));
-    show(b", AL ", m.get_register_value(Register::AL));
-    show(b", AX ", m.get_register_value(Register::AX));
-    show(b", EAX ", m.get_register_value(Register::EAX));
-    end();
-}
-
-fn flags() {
-    let m = MachineState::new()
-        .compute_flags(256, ArgumentSize::Bit8)
-        .machine;
-    show_flag(b"result 256 at Bit8: Zero ", m.get_flag(Flags::Zero));
-    show_flag(b", Sign ", m.get_flag(Flags::Sign));
-    show_flag(b", Parity ", m.get_flag(Flags::Parity));
-    end();
-}
-
-fn address() {
-    let base = with(Register::RAX, 16);
-    let m = base.set_register_value(Register::RBX, MINUS_ONE).machine;
-    let operand = InstructionArgument::EffectiveAddress {
-        base: SomeRegister::Present(Register::RAX),
-        index: SomeRegister::Present(Register::RBX),
-        scale: SomeScale::Present(8),
-        displacement: -8,
-    };
-    let Address::At(at) = m.calculate_effective_address(operand) else {
-        return;
-    };
-    show(b"base 16, index -1, scale 8, displacement -8: address ", at);
-    end();
-}
+// The examples of 01, printed one to a line; `rt` compares what is written with the file stdout beside this folder. The lines marked ● in 01 are
+// proved too, in one table: promises/proofs/Table.antt. The crate stands on the machine and its texts, and nothing stands on it.
+mod memory; // memory.rt
+mod registers; // registers.rt
+mod show; // show.rt
+mod texts; // texts.rt
 
 fn main() {
-    low_byte();
-    low_half();
-    parts();
-    flags();
-    address();
+    registers::all();
+    memory::all();
+    texts::all();
 }

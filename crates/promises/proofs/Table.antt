@@ -12,7 +12,7 @@ use Rattle.utils.specs.Outcome.{Outcome, gives}
 use Rattle.utils.specs.Word.{cut, put, extend}
 use Rattle.instruction_set.specs.Registers.{row}
 use Rattle.instruction_set.specs.declared.ArgumentSize.the-variants.{Bit8, Bit16, Bit64}
-use Rattle.instruction_set.specs.declared.Register.the-variants.{RBX, RSP}
+use Rattle.instruction_set.specs.declared.Register.the-variants.{RAX, RBX, RSP, EAX, AX, SPL}
 use Rattle.fields.specs.FlagBits.{bitSet, putFlag, evenOnes}
 use Rattle.fields.specs.Parts.{readOf, writeOf}
 use Rattle.mmu.specs.Calls.{readOutcome, readOut, writeOutcome}
@@ -23,7 +23,10 @@ use Rattle.machine_state.specs.Answers.{Value, word, After}
 use Rattle.machine_state.specs.Flagged.{computeFlags}
 use Rattle.machine_state.specs.Machine.{newMachine, readReg, writeReg}
 use Rattle.machine_state.specs.Memory.{valued, withValue, loaded, pushed, readMemory, writeMemory}
-use Rattle.promises.specs.Table.{minus, rax, operand, valuesOf, flags, eighty, twoSlots, oneSlot, pageZero, tables, eight, afterPush, afterTop, table, left, right}
+use Rattle.exposed.specs.Exposed.{exposed}
+use Rattle.exposed.specs.Places.{reads, rewrites}
+use Rattle.exposed.specs.Rows.{readsOf, rewritesOf, inSpan, inSpans}
+use Rattle.promises.specs.Table.{minus, rax, operand, valuesOf, flags, eighty, twoSlots, oneSlot, pageZero, tables, eight, afterPush, afterTop, placesOf, exposedOf, writing, reading, pushing, table, left, right}
 use Rattle.promises.proofs.Demand2.{reads-accepted, reads-back, others-stay, sound-after}
 
 cons : {a b : List ℕ} {xs ys : List (List ℕ)} → a ≡ b → xs ≡ ys → a ∷ xs ≡ b ∷ ys
@@ -110,5 +113,24 @@ address : values 6 (left table) ≡ values 6 (right table)
 unfolding addressOf readReg writeReg readOf writeOf row cut put extend
 address = refl
 
+-- ---- exposed places
+ax-eax : exposedOf (writing AX ∷ reading EAX ∷ []) ≡ 2 ∷ 3 ∷ []
+unfolding exposedOf placesOf exposed reads rewrites readsOf rewritesOf inSpan inSpans row
+ax-eax = refl
+
+eax-rax : exposedOf (writing EAX ∷ reading RAX ∷ []) ≡ []
+unfolding exposedOf placesOf exposed reads rewrites readsOf rewritesOf inSpan inSpans row
+eax-rax = refl
+
+push-spl : exposedOf (pushing ∷ reading SPL ∷ []) ≡ 32 ∷ 33 ∷ 34 ∷ 35 ∷ 36 ∷ 37 ∷ 38 ∷ 39 ∷ 152 ∷ 153 ∷ 154 ∷ 155 ∷ 156 ∷ 157 ∷ 158 ∷ 159 ∷ []
+unfolding exposedOf placesOf exposed reads rewrites readsOf rewritesOf inSpan inSpans row
+push-spl = refl
+
 pub examples : left table ≡ right table
-examples = cons low-byte (cons low-half (cons parts (cons eighty-byte (cons eighty-word (cons set (cons address (cons push (cons top (cons walk (cons room refl))))))))))
+examples =
+    cons low-byte
+    (cons low-half
+    (cons parts
+    (cons eighty-byte
+    (cons eighty-word
+    (cons set (cons address (cons push (cons top (cons walk (cons room (cons ax-eax (cons eax-rax (cons push-spl refl)))))))))))))

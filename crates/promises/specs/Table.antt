@@ -1,6 +1,7 @@
 -- The ● examples of 01, one line each: on the left what the definitions give, on the right what the paper says.
 use mathlib.Core.List.{List, [], _∷_}
-use Prim.Native.Nat.{ℕ, _-_, _^_}
+use mathlib.Core.Bool.{Bool, true, false}
+use Prim.Native.Nat.{ℕ, zero, suc, _-_, _^_}
 use lib.IntN.{negsuc}
 use lib.ListN.{replicate, set, getD}
 use Rattle.instruction_set.specs.declared.ArgumentSize.the-variants.{Bit8, Bit16, Bit64}
@@ -8,7 +9,7 @@ use Rattle.instruction_set.specs.declared.Flags.the-variants.{Parity, Zero, Sig
 use Rattle.instruction_set.specs.declared.InstructionArgument.{InstructionArgument}
 use Rattle.instruction_set.specs.declared.InstructionArgument.the-variants as arg
 use Rattle.instruction_set.specs.declared.Register.{Register}
-use Rattle.instruction_set.specs.declared.Register.the-variants.{RAX, RBX, RSP, EAX, AX, AL, AH}
+use Rattle.instruction_set.specs.declared.Register.the-variants.{RAX, RBX, RSP, EAX, AX, AL, AH, SPL}
 use Rattle.instruction_set.specs.declared.SomeRegister.the-variants as reg
 use Rattle.instruction_set.specs.declared.SomeScale.the-variants as by
 use Rattle.fields.specs.FlagBits.{boolBit}
@@ -20,6 +21,9 @@ use Rattle.machine_state.specs.Flagged.{flagIn, computeFlags}
 use Rattle.machine_state.specs.Machine.{newMachine, readReg, writeReg}
 use Rattle.machine_state.specs.Memory.{loaded, pushed, writeMemory}
 use Rattle.machine_state.specs.declared.MachineState.{MachineState}
+use Rattle.calls.specs.declared.Call.the-variants.{ReadOperand, WriteOperand, Push}
+use Rattle.exposed.specs.Exposed.{exposed}
+use Rattle.exposed.specs.Places.{Act, reads, rewrites}
 
 pub record Line : Type 0 where
   pub computed : List ℕ
@@ -35,9 +39,9 @@ minus n = 2 ^ 64 - n
 abbrev pub rax : ℕ → MachineState
 rax v = writeReg newMachine RAX v
 
-abbrev pub reads : MachineState → List Register → List ℕ
-reads m [] = []
-reads m (r ∷ rs) = readReg m r ∷ reads m rs
+abbrev pub registers : MachineState → List Register → List ℕ
+registers m [] = []
+registers m (r ∷ rs) = readReg m r ∷ registers m rs
 
 abbrev pub flags : MachineState → List ℕ
 flags m = boolBit (flagIn m Zero) ∷ boolBit (flagIn m Sign) ∷ boolBit (flagIn m Parity) ∷ []
@@ -79,11 +83,32 @@ afterPush = pushed newMachine twoSlots eight
 abbrev pub afterTop : After
 afterTop = writeMemory newMachine twoSlots (minus 1) (1 ∷ 2 ∷ [])
 
+-- the exposed places of a list of calls, of the 182
+abbrev pub ifYes : Bool → ℕ → List ℕ → List ℕ
+ifYes true k ks = k ∷ ks
+ifYes false k ks = ks
+
+unfoldable pub placesOf : ℕ → ℕ → (ℕ → Bool) → List ℕ
+placesOf zero k f = []
+placesOf (suc n) k f = ifYes (f k) k (placesOf n (suc k) f)
+
+unfoldable pub exposedOf : List Act → List ℕ
+exposedOf acts = placesOf 182 0 (exposed reads rewrites acts)
+
+abbrev pub writing : Register → Act
+writing r = record { call = WriteOperand (arg.Register r) Bit64 1; lent = [] }
+
+abbrev pub reading : Register → Act
+reading r = record { call = ReadOperand (arg.Register r) Bit64; lent = [] }
+
+abbrev pub pushing : Act
+pushing = record { call = Push; lent = 7 ∷ [] }
+
 abbrev pub table : List Line
 table =
-    line (reads (writeReg (rax 0) AL 0x80) (RAX ∷ AL ∷ AH ∷ [])) (128 ∷ minus 128 ∷ 0 ∷ [])
-    ∷ line (reads (writeReg (rax (minus 1)) EAX (minus 1)) (RAX ∷ EAX ∷ [])) (4294967295 ∷ minus 1 ∷ [])
-    ∷ line (reads (rax 0x8000) (AH ∷ AL ∷ AX ∷ EAX ∷ [])) (minus 128 ∷ 0 ∷ minus 32768 ∷ 32768 ∷ [])
+    line (registers (writeReg (rax 0) AL 0x80) (RAX ∷ AL ∷ AH ∷ [])) (128 ∷ minus 128 ∷ 0 ∷ [])
+    ∷ line (registers (writeReg (rax (minus 1)) EAX (minus 1)) (RAX ∷ EAX ∷ [])) (4294967295 ∷ minus 1 ∷ [])
+    ∷ line (registers (rax 0x8000) (AH ∷ AL ∷ AX ∷ EAX ∷ [])) (minus 128 ∷ 0 ∷ minus 32768 ∷ 32768 ∷ [])
     ∷ line (valuesOf (loaded newMachine eighty 0 Bit8 .outcome .values)) (128 ∷ [])
     ∷ line (valuesOf (loaded newMachine eighty 0 Bit16 .outcome .values)) (minus 32640 ∷ [])
     ∷ line (flags (computeFlags newMachine 256 Bit8)) (0 ∷ 0 ∷ 1 ∷ [])
@@ -92,6 +117,9 @@ table =
     ∷ line (afterTop .outcome .number ∷ byteAt (afterTop .store) 0 ∷ []) (0 ∷ 0 ∷ [])
     ∷ line (physical tables 0x1000 0x40200005 ∷ []) (0x600005 ∷ [])
     ∷ line (writeMemory newMachine oneSlot 4095 (1 ∷ 2 ∷ []) .outcome .number ∷ writeMemory newMachine pageZero 4095 (1 ∷ 2 ∷ []) .outcome .number ∷ []) (6 ∷ 0 ∷ [])
+    ∷ line (exposedOf (writing AX ∷ reading EAX ∷ [])) (2 ∷ 3 ∷ [])
+    ∷ line (exposedOf (writing EAX ∷ reading RAX ∷ [])) []
+    ∷ line (exposedOf (pushing ∷ reading SPL ∷ [])) (32 ∷ 33 ∷ 34 ∷ 35 ∷ 36 ∷ 37 ∷ 38 ∷ 39 ∷ 152 ∷ 153 ∷ 154 ∷ 155 ∷ 156 ∷ 157 ∷ 158 ∷ 159 ∷ [])
     ∷ []
 
 abbrev pub left : List Line → List (List ℕ)

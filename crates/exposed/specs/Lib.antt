@@ -1,0 +1,4 @@
+pub mod Rows
+pub mod Exposed
+pub mod Places
+pub mod Reported

@@ -1,0 +1,16 @@
+-- `event_text` meets its contract: the line is measured, and then written or refused. Assumes nothing.
+use Rattle.text.proofs.Answering.{too-long, in-room}
+use borrow.Author.Needs.{needs}
+use Rattle.text.proofs.event_text.Statement.{statement}
+use Rattle.text.proofs.event_text.Tie as tie
+
+pub event-text-spec : {M : Type 1} → statement M
+event-text-spec =
+    tie.close
+    (tie.spec
+    (λ c. search needs)
+    (λ c κs. search needs)
+    (λ c. too-long (c .before .before .put-event .ensures) (c .if1 .taken))
+    (λ c κs. search needs)
+    (λ c. search needs)
+    (λ c. in-room (c .before .before .before .before .before .before .put-event .ensures) (c .before .before .before .before .if1 .left) (c .before .before .put-event2 .ensures)))
