@@ -5,4 +5,3 @@ pub mod Owed
 pub mod Marking
 pub mod Theorem
 pub mod Whole
-pub mod Examples

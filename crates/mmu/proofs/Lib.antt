@@ -9,4 +9,3 @@ pub mod View
 pub mod Answers
 pub mod Laws
 pub mod History
-pub mod Examples

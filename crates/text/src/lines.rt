@@ -81,7 +81,7 @@ fn put_line(out: &mut [u8], at: usize, regs: [u64; 22], register: Register) -> u
     put_hex(out, p, value)
 }
 
-pub fn put_state(out: &mut [u8], regs: [u64; 22]) -> usize
+pub(crate) fn put_state(out: &mut [u8], regs: [u64; 22]) -> usize
     ensures { λ r. ⌜ Put 577 (now (out .entry)) 0 (lineOf regs RAX ++ linesAfter regs others) (now (out .exit)) r ⌝ }
 {
     let mut o = put_line(out, 0, regs, Register::RAX);
@@ -126,7 +126,7 @@ fn put_video(out: &mut [u8], byte: u8) -> usize
     put_byte(out, p, 0x80 + byte % 0x40)
 }
 
-pub fn put_event(out: &mut [u8], event: Event) -> usize
+pub(crate) fn put_event(out: &mut [u8], event: Event) -> usize
     ensures { λ r. ⌜ Put 21 (now (out .entry)) 0 (eventText event) (now (out .exit)) r ⌝ }
 {
     match event {

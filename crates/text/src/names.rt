@@ -77,7 +77,7 @@ fn put_cell(out: &mut [u8], at: usize, n: usize) -> usize
     o
 }
 
-pub fn put_name(out: &mut [u8], at: usize, register: Register) -> usize
+pub(crate) fn put_name(out: &mut [u8], at: usize, register: Register) -> usize
     requires { ⌜ at + 4 < 2 ^ 64 ⌝ }
     ensures { λ r. ⌜ Put 4 (now (out .entry)) at (nameOf register) (now (out .exit)) r ⌝ }
 {

@@ -125,7 +125,7 @@ fn put_operand(out: &mut [u8], at: usize, x: InstructionArgument, size: Argument
 }
 
 // One operand, or two joined by a comma.
-pub fn put_list(
+pub(crate) fn put_list(
     out: &mut [u8],
     first: InstructionArgument,
     second: SomeArgument,
@@ -144,7 +144,7 @@ pub fn put_list(
 }
 
 // Refusal 3: an index that is shown wants a scale.
-pub fn lacks_scale(x: InstructionArgument) -> bool
+pub(crate) fn lacks_scale(x: InstructionArgument) -> bool
     ensures { λ r. ⌜ r ≡ lacksScale x ⌝ }
 {
     match x {
@@ -160,7 +160,7 @@ pub fn lacks_scale(x: InstructionArgument) -> bool
     }
 }
 
-pub fn some_lacks_scale(x: SomeArgument) -> bool
+pub(crate) fn some_lacks_scale(x: SomeArgument) -> bool
     ensures { λ r. ⌜ r ≡ someLacksScale x ⌝ }
 {
     match x {

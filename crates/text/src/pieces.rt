@@ -17,7 +17,7 @@ fn store(out: &mut [u8], at: usize, b: u8)
     }
 }
 
-pub fn put_byte(out: &mut [u8], at: usize, b: u8) -> usize
+pub(crate) fn put_byte(out: &mut [u8], at: usize, b: u8) -> usize
     requires { ⌜ at + 1 < 2 ^ 64 ⌝ }
     ensures { λ r. ⌜ Put 1 (now (out .entry)) at (b ∷ []) (now (out .exit)) r ⌝ }
 {
@@ -25,7 +25,7 @@ pub fn put_byte(out: &mut [u8], at: usize, b: u8) -> usize
     at + 1
 }
 
-pub fn put_bytes(out: &mut [u8], at: usize, s: &[u8]) -> usize
+pub(crate) fn put_bytes(out: &mut [u8], at: usize, s: &[u8]) -> usize
     requires { ⌜ at + length (now s) < 2 ^ 64 ⌝ }
     ensures { λ r. ⌜ Put (length (now (s .entry))) (now (out .entry)) at (now (s .entry)) (now (out .exit)) r ⌝ }
 {
@@ -58,7 +58,7 @@ fn hex_byte(d: u8) -> u8
 }
 
 // The n lowest hex digits of x, highest first.
-pub fn put_digits(out: &mut [u8], at: usize, n: usize, x: u64) -> usize
+pub(crate) fn put_digits(out: &mut [u8], at: usize, n: usize, x: u64) -> usize
     requires { ⌜ (at + 16 < 2 ^ 64) × (n ≤ 16) ⌝ }
     ensures { λ r. ⌜ Put 16 (now (out .entry)) at (hexDigits n x) (now (out .exit)) r ⌝ }
 {
@@ -73,14 +73,14 @@ pub fn put_digits(out: &mut [u8], at: usize, n: usize, x: u64) -> usize
     o
 }
 
-pub fn put_hex(out: &mut [u8], at: usize, x: u64) -> usize
+pub(crate) fn put_hex(out: &mut [u8], at: usize, x: u64) -> usize
     requires { ⌜ at + 16 < 2 ^ 64 ⌝ }
     ensures { λ r. ⌜ Put 16 (now (out .entry)) at (hexText x) (now (out .exit)) r ⌝ }
 {
     put_digits(out, at, digit_count(x), x)
 }
 
-pub fn put_decimal(out: &mut [u8], at: usize, x: u8) -> usize
+pub(crate) fn put_decimal(out: &mut [u8], at: usize, x: u8) -> usize
     requires { ⌜ at + 3 < 2 ^ 64 ⌝ }
     ensures { λ r. ⌜ Put 3 (now (out .entry)) at (decimalText x) (now (out .exit)) r ⌝ }
 {
