@@ -237,7 +237,7 @@ memory-read : (b i : SomeRegister) (k : SomeScale) (d : ℤ) (z : ArgumentSize) 
     → Agree (ReadOperand (arg.EffectiveAddress b i k d) z) m n → Same (readOperand m s (arg.EffectiveAddress b i k d) z) (readOperand n s (arg.EffectiveAddress b i k d) z)
 unfolding readOperand readsOf
 memory-read b i k d z m n s g q a =
-    let row = spans (partSpan b) (partSpan i) cr3 none in
+    let row = readsOf (ReadOperand (arg.EffectiveAddress b i k d) z) in
     let e : cr3Of m ≡ cr3Of n = cr3-alike m n g q (λ p h. a p (in-three row p h)) in
     let f = address-alike b i k d m n row refl refl a in
     rw f (at-alike m n s e (addressOf n (arg.EffectiveAddress b i k d)) (λ x. loaded m s x z) (λ x. loaded n s x z) (λ x. load-alike m n s e x x z refl))
@@ -246,7 +246,7 @@ memory-written : (b i : SomeRegister) (k : SomeScale) (d : ℤ) (z : ArgumentSiz
     → Agree (WriteOperand (arg.EffectiveAddress b i k d) z v) m n → Same (writeOperand m s (arg.EffectiveAddress b i k d) z v) (writeOperand n s (arg.EffectiveAddress b i k d) z v)
 unfolding writeOperand readsOf
 memory-written b i k d z v m n s g q a =
-    let row = spans (partSpan b) (partSpan i) cr3 none in
+    let row = readsOf (WriteOperand (arg.EffectiveAddress b i k d) z v) in
     let e : cr3Of m ≡ cr3Of n = cr3-alike m n g q (λ p h. a p (in-three row p h)) in
     let f = address-alike b i k d m n row refl refl a in
     rw f (at-alike m n s e (addressOf n (arg.EffectiveAddress b i k d)) (λ x. storedAt m s x z v) (λ x. storedAt n s x z v) (λ x. store-alike m n s e x x z v refl))
@@ -256,7 +256,7 @@ push-alike : (m n : MachineState) (s : Store) (l : List ℕ) → Sound m → Sou
     → Same (writeMemory m s (below (rspOf m) (length l)) l) (writeMemory n s (below (rspOf n) (length l)) l) × (below (rspOf m) (length l) ≡ below (rspOf n) (length l))
 unfolding readsOf
 push-alike m n s l g k a =
-    let row = spans rsp cr3 none none in
+    let row = readsOf Push in
     let e : cr3Of m ≡ cr3Of n = cr3-alike m n g k (λ p h. a p (in-two row p h)) in
     let r : rspOf m ≡ rspOf n = rsp-alike m n g k (λ p h. a p (in-one row p h)) in
     let f : below (rspOf m) (length l) ≡ below (rspOf n) (length l) = ap (λ (x : ℕ). below x (length l)) r in
@@ -266,7 +266,7 @@ pop-alike : (m n : MachineState) (s : Store) → Sound m → Sound n → Agree P
     → Same (loaded m s (rspOf m) Bit64) (loaded n s (rspOf n) Bit64) × ((rspOf m + 8) % 2 ^ 64 ≡ (rspOf n + 8) % 2 ^ 64)
 unfolding readsOf
 pop-alike m n s g k a =
-    let row = spans rsp cr3 none none in
+    let row = readsOf Pop in
     let e : cr3Of m ≡ cr3Of n = cr3-alike m n g k (λ p h. a p (in-two row p h)) in
     let r : rspOf m ≡ rspOf n = rsp-alike m n g k (λ p h. a p (in-one row p h)) in
     (load-alike m n s e (rspOf m) (rspOf n) Bit64 r, ap (λ (x : ℕ). (x + 8) % 2 ^ 64) r)

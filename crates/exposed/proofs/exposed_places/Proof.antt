@@ -4,6 +4,7 @@ use lib.ListN.{length}
 use native.Mathlib.Omega.{arith}
 use Rattle.exposed.proofs.Marking.{Listing, listing-none, listing-more, listing-done, listing-refused, reads-inside, rewrites-inside, listing-long}
 use borrow.Author.Needs.{needs}
+use Rattle.exposed.specs.Reported.{Inside}
 use mathlib.Core.Path.{_≡_, refl, subst, _∙_}
 use Prim.Native.Nat.{ℕ}
 use Rattle.exposed.proofs.exposed_places.Statement.{statement}
@@ -28,7 +29,9 @@ exposed-places-spec =
     (λ c. omega arith)
     (λ c κs. search needs)
     (λ c κs. search needs)
-    (λ c κs. (listing-long (c .before .before .before .before .before .loop .inv), rw (c .before .before .rewrites-of .ensures) (rewrites-inside _)))
+    (λ c κs. let w : Inside (c .before .before .rewrites-of .result) = rw (c .before .before .rewrites-of .ensures) (rewrites-inside _) in
+    let r : Inside (c .before .reads-of .result) = rw (c .before .reads-of .ensures) (reads-inside _) in
+    (listing-long (c .before .before .before .before .before .loop .inv), search needs))
     (λ c κs. (c .before .mark-all .ensures .long ∙ listing-long (c .before .before .before .before .before .before .before .loop .inv), rw (c .before .before .before .reads-of .ensures) (reads-inside _)))
     (λ c. omega arith)
     (λ c. let long : length (c .before .before .before .before .before .before .before .before .before .before .args .t1) ≡ 64 = search needs in

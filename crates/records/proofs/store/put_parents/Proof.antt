@@ -1,0 +1,60 @@
+-- `records::store::put_parents` is safe and ends: 22 turns. Assumes nothing.
+use borrow.Author.Needs.{needs}
+use lib.ListN.{length}
+use mathlib.Core.Path.{_≡_}
+use Prim.Native.Nat.{_-_}
+use Rattle.records.proofs.store.put_parents.Statement.{statement}
+use Rattle.records.proofs.store.put_parents.Tie as tie
+
+abbrev Inv-loop : tie.InvT-loop
+Inv-loop regs block₀ i₀ block i = (length block ≡ length block₀)
+
+abbrev μ-loop : tie.MeasureT-loop
+μ-loop regs block₀ i₀ block i = 22 - i
+
+loop-holds : tie.Need-loop-holds Inv-loop μ-loop
+loop-holds c = search needs
+
+mul-put-word : tie.Need-mul-put-word Inv-loop μ-loop
+mul-put-word c = search needs
+
+mul-put-word-2 : tie.Need-mul-put-word-2 Inv-loop μ-loop
+mul-put-word-2 c = search needs
+
+element-copy-out-put-word : tie.Need-element-copy-out-put-word Inv-loop μ-loop
+element-copy-out-put-word c = search needs
+
+put-word-requires : tie.Need-put-word-requires Inv-loop μ-loop
+put-word-requires c κs = search needs
+
+add-i : tie.Need-add-i Inv-loop μ-loop
+add-i c = search needs
+
+loop-less : tie.Need-loop-less Inv-loop μ-loop
+loop-less c = search needs
+
+loop-again : tie.Need-loop-again Inv-loop μ-loop
+loop-again c = search needs
+
+same-length : tie.Need-same-length Inv-loop μ-loop
+same-length c = search needs
+
+returns : tie.Need-returns Inv-loop μ-loop
+returns c = search needs
+
+pub put-parents-spec : {M : Type 1} → statement M
+put-parents-spec =
+    tie.close
+    (tie.spec
+    Inv-loop
+    μ-loop
+    loop-holds
+    mul-put-word
+    mul-put-word-2
+    element-copy-out-put-word
+    put-word-requires
+    add-i
+    loop-less
+    loop-again
+    same-length
+    returns)
