@@ -18,6 +18,7 @@ ghost use Rattle.machine_state.specs.declared.Event.the-variants.{Quiet}
 // Parents are numbered as in 01. CR0 is the first whose write gives an event.
 const CR0: usize = 17;
 
+#[repr(C)]
 pub struct MachineState {
     pub regs: [u64; 22],
     pub rflags: u64,
