@@ -9,40 +9,40 @@ ghost use Rattle.machine_state.specs.Flagged.{setFlag};
 ghost use Rattle.host.specs.Numbered.{flagAt, names, isSet, setNumbered};
 
 // The by-value call's event is always Quiet, so nothing of its answer is lost.
-pub fn set_flag(machine: &mut MachineState, flag: Flags, value: bool)
-    ensures { λ _. ⌜ now (machine .exit) ≡ setFlag (now (machine .entry)) flag value ⌝ }
+pub fn set_flag(m: &mut MachineState, flag: Flags, value: bool)
+    ensures { λ _. ⌜ now (m .exit) ≡ setFlag (now (m .entry)) flag value ⌝ }
 {
-    *machine = (*machine).set_flag(flag, value).machine;
+    *m = (*m).set_flag(flag, value).machine;
 }
 
 // The flag's number is any word; one that names no flag changes nothing and answers false. A value of 0 clears, any other sets.
 #[no_mangle]
-pub extern "C" fn ruonasvel_set_flag(machine: &mut MachineState, flag: u64, value: u64) -> bool
-    ensures { λ r. ⌜ (now (machine .exit) ≡ setNumbered (now (machine .entry)) flag (isSet value)) × (r ≡ names flag) ⌝ }
+pub extern "C" fn ruonasvel_set_flag(m: &mut MachineState, flag: u64, value: u64) -> bool
+    ensures { λ r. ⌜ (now (m .exit) ≡ setNumbered (now (m .entry)) flag (isSet value)) × (r ≡ names flag) ⌝ }
 {
-    let left = set_numbered(*machine, flag, value);
-    *machine = left.machine;
-    left.known
+    let tried = set_numbered(*m, flag, value);
+    *m = tried.machine;
+    tried.known
 }
 
 // What a call by number leaves, and whether its number names a flag.
-struct Left {
+struct Tried {
     machine: MachineState,
     known: bool,
 }
 
-fn set_numbered(machine: MachineState, flag: u64, value: u64) -> Left
+fn set_numbered(machine: MachineState, flag: u64, value: u64) -> Tried
     ensures { λ r. ⌜ (r .machine ≡ setNumbered machine flag (isSet value)) × (r .known ≡ names flag) ⌝ }
 {
     if flag < 6 {
         let changed = machine.set_flag(flag_at(flag), value != 0);
         let machine = changed.machine;
-        return Left {
+        return Tried {
             machine,
             known: true,
         };
     }
-    Left {
+    Tried {
         machine,
         known: false,
     }

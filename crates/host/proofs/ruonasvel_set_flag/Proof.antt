@@ -35,16 +35,16 @@ use denote.Triple.Call.{calls-at}
 use denote.Triple.Entry.{onEntry}
 use denote.Triple.Spec.{Meets, tripleOf}
 use denote.Triple.Table.{entered, cited}
-use denote.Triple.Walked.{says, Stays, stay-ref, stay-none, walkOf, AllGo, goes-none, goes-ref, Walks, ends-at, walked, walk-meets}
+use denote.Triple.Walked.{says, Stays, stay-ref, stay-none, walkOf, goes-none, goes-ref, ends-at, walked, walk-meets}
 use denote.Triple.Clauses.{ensured, lasts}
 use denote.Exit.{yes}
 use Rattle.machine_state.specs.declared.MachineState.{MachineState}
 use Rattle.machine_state.proofs.MachineState as T
 use Rattle.machine_state.proofs.MachineState.Laws as T′
 use Rattle.host.specs.Numbered.{names, isSet, setNumbered}
-use Rattle.host.specs.declared.Left.{Left}
-use Rattle.host.proofs.Left as R
-use Rattle.host.proofs.Left.Laws as R′
+use Rattle.host.specs.declared.Tried.{Tried}
+use Rattle.host.proofs.Tried as R
+use Rattle.host.proofs.Tried.Laws as R′
 use Rattle.host.proofs.set_numbered as g
 use Rattle.host.proofs.set_numbered.Symbol as g-def
 use Rattle.host.proofs.set_numbered.Symbol.{name as #g}
@@ -66,14 +66,14 @@ module _ {M : Type 1} (𝓤 : URA M) (H : Heap 𝓤) (A : Atoms 𝓤) (W : Given
   G = tripleOf 𝓤 H A g.signature (g.spec 𝓤 H A at-mem run)
 
   module _ (κ : Lft) (q : Share) (b o : ℕ) (γ : GName) (h : MachineState) (n v : ℕ) (n-fits : n < 2 ^ 64) (v-fits : v < 2 ^ 64) where
-    abbrev left : Left
-    left = record { machine = setNumbered h n (isSet v); known = names n }
+    abbrev answer : Tried
+    answer = record { machine = setNumbered h n (isSet v); known = names n }
 
-    abbrev Says : Left → Type 0
-    Says r = (r .machine ≡ left .machine) × (r .known ≡ left .known)
+    abbrev Says : Tried → Type 0
+    Says r = (r .machine ≡ answer .machine) × (r .known ≡ answer .known)
 
-    says-left : (r : Left) → ent 𝓤 (ensured 𝓤 H A g.ended (g.clauses 𝓤 H A at-mem run) tt (h, (n, (v, tt))) tt r) (fact 𝓤 (Says r))
-    says-left r = exE 𝓤 _ (λ ws. snd∗ 𝓤 (sem 𝓤 H A (lasts g.ended tt (h, (n, (v, tt))) ws)) (fact 𝓤 (Says r)))
+    says-answer : (r : Tried) → ent 𝓤 (ensured 𝓤 H A g.ended (g.clauses 𝓤 H A at-mem run) tt (h, (n, (v, tt))) tt r) (fact 𝓤 (Says r))
+    says-answer r = exE 𝓤 _ (λ ws. snd∗ 𝓤 (sem 𝓤 H A (lasts g.ended tt (h, (n, (v, tt))) ws)) (fact 𝓤 (Says r)))
 
     abbrev x : RefT MachineState × (ℕ × (ℕ × Unit {0}))
     x = (record { ptr = (b, o); name = γ; now = h }, (n, (v, tt)))
@@ -84,10 +84,10 @@ module _ {M : Type 1} (𝓤 : URA M) (H : Heap 𝓤) (A : Atoms 𝓤) (W : Given
     abbrev Post : Val → SProp 𝓤
     Post = walkOf 𝓤 H A f.ended stayed (f.clauses 𝓤 H A at-mem run) .post (((κ, tt), (q, tt), tt, x, at), tt)
 
-    exits : ent 𝓤 (sep 𝓤 (A .obs γ (T.the-row .coded .code (left .machine))) (sep 𝓤 (A .bor κ (Body (mem T.the-row) b o γ)) (A .lft κ q))) (Post (vbool (names n)))
+    exits : ent 𝓤 (sep 𝓤 (A .obs γ (T.the-row .coded .code (answer .machine))) (sep 𝓤 (A .bor κ (Body (mem T.the-row) b o γ)) (A .lft κ q))) (Post (vbool (names n)))
     exits =
-        qed W (‵ (fobs γ (T.the-row .coded .code (left .machine))) ∷ ‵ (fbor κ (Body (mem T.the-row) b o γ)) ∷ ‵ (flft κ q) ∷ []) ∵
-        suffices ! _ (ends-at 𝓤 H A f.ended stayed (f.clauses 𝓤 H A at-mem run) W (((κ, tt), (q, tt), tt, x, at), tt) (vbool (names n)) (names n) (left .machine, (tt, (tt, tt))) (tt, (tt, (tt, tt)))) $ says ! (refl, refl) $
+        qed W (‵ (fobs γ (T.the-row .coded .code (answer .machine))) ∷ ‵ (fbor κ (Body (mem T.the-row) b o γ)) ∷ ‵ (flft κ q) ∷ []) ∵
+        suffices ! _ (ends-at 𝓤 H A f.ended stayed (f.clauses 𝓤 H A at-mem run) W (((κ, tt), (q, tt), tt, x, at), tt) (vbool (names n)) (names n) (answer .machine, (tt, (tt, tt))) (tt, (tt, (tt, tt)))) $ says ! (refl, refl) $
         nothing ! $ move ! (3 ∷ 0 ∷ []) $ join ! $ frame ! $ feqI ! (List Val) (vptr b o ∷ []) (vptr b o ∷ []) refl $ fjoin3 ! $
         nothing ! $ owned ! u64 (Is u64) (uint-makes 𝓤 H A W w64) v _ (refl, v-fits) $ fjoin ! $ owned ! u64 (Is u64) (uint-makes 𝓤 H A W w64) n _ (refl, n-fits) $ fjoin ! $
         move ! (1 ∷ 0 ∷ []) $ fjoin ! $ owned ! bool (Is bool) (bool-makes 𝓤 H A W) (names n) _ refl $ move ! (1 ∷ 0 ∷ []) $ done !
@@ -114,34 +114,30 @@ module _ {M : Type 1} (𝓤 : URA M) (H : Heap 𝓤) (A : Atoms 𝓤) (W : Given
           assigns ! (of-opd ! (load ! (from ! (hop ! (look ! 13 refl) (stop !))) (look-raw ! 0 refl))) (from ! (stop !)) (init ! 5 refl (LL.lawful T.the-type T′.the-laws 𝓤 H A W .typed h _ was .0)) $
           move ! (1 ∷ 19 ∷ 17 ∷ []) $ use3 W (raw (G .pre to-g)) goes-g $
           calls-at ! fm G known to-g (and-then ! (load ! (from ! (stop !)) (look ! 5 refl)) (and-then ! (load ! (from ! (stop !)) (look ! 11 refl)) (and-then ! (load ! (from ! (stop !)) (look ! 9 refl)) (no-more !)))) (λ u.
-          use1 W (later (some (λ (r : Left). (‵ ftrue ⊛ ‵ (R.the-row .own r (u ∷ []))) ⊛ raw (ensured 𝓤 H A g.ended (g.clauses 𝓤 H A at-mem run) tt (h, (n, (v, tt))) tt r)))) (id⊢ 𝓤 _) $ await ! tt $ pick ! (λ r.
-          split ! $ move ! (1 ∷ []) $ use1 W (raw (fact 𝓤 (Says r))) (says-left r) $ heard ! (Says r) (λ e. split ! $ drop ! $ rewrite ! 0 (λ (r′ : Left). ‵ (R.the-row .own r′ (u ∷ []))) (λ i. record { machine = e .0 i; known = e .1 i }) refl $
-          peeks ! R.the-row (Is R.the-row) (shows 𝓤 H A R.the-row) left (u ∷ []) (λ is. land ! (from ! (stop !)) (init ! 7 refl (LL.lawful R.the-type R′.the-laws 𝓤 H A W .typed left _ is .0)) $
-          rewrite ! 7 (λ (us : List Val). ‵ (fat fullShare R′.mir l₄ 0 (only us))) (LL.tells R.the-type R′.the-laws left (u ∷ []) is) refl $ drop ! $
-          owned ! T.the-row (Is T.the-row) (LL.makes T.the-type T′.the-plain 𝓤 H A) (left .machine) (vals (left .machine)) (LL.owed R.the-type R′.the-laws left _ is .0) $ move ! (1 ∷ 0 ∷ []) $
+          use1 W (later (some (λ (r : Tried). (‵ ftrue ⊛ ‵ (R.the-row .own r (u ∷ []))) ⊛ raw (ensured 𝓤 H A g.ended (g.clauses 𝓤 H A at-mem run) tt (h, (n, (v, tt))) tt r)))) (id⊢ 𝓤 _) $ await ! tt $ pick ! (λ r.
+          split ! $ move ! (1 ∷ []) $ use1 W (raw (fact 𝓤 (Says r))) (says-answer r) $ heard ! (Says r) (λ e. split ! $ drop ! $ rewrite ! 0 (λ (r′ : Tried). ‵ (R.the-row .own r′ (u ∷ []))) (λ i. record { machine = e .0 i; known = e .1 i }) refl $
+          peeks ! R.the-row (Is R.the-row) (shows 𝓤 H A R.the-row) answer (u ∷ []) (λ is. land ! (from ! (stop !)) (init ! 7 refl (LL.lawful R.the-type R′.the-laws 𝓤 H A W .typed answer _ is .0)) $
+          rewrite ! 7 (λ (us : List Val). ‵ (fat fullShare R′.mir l₄ 0 (only us))) (LL.tells R.the-type R′.the-laws answer (u ∷ []) is) refl $ drop ! $
+          owned ! T.the-row (Is T.the-row) (LL.makes T.the-type T′.the-plain 𝓤 H A) (answer .machine) (vals (answer .machine)) (LL.owed R.the-type R′.the-laws answer _ is .0) $ move ! (1 ∷ 0 ∷ []) $
           -- [the machine's cell; what the machine in the answer owns; the open borrow; obs; auth; _5; …; _4: the answer; …]
           assigns ! (of-opd ! (load ! (from ! (fld ! refl (stop !))) (look-in ! 7 (sub ! 0 refl (whole !))))) (from ! (hop ! (look ! 13 refl) (stop !)))
-          (store-raw ! 0 refl (LL.lawful T.the-type T′.the-laws 𝓤 H A W .typed (left .machine) _ (LL.owed R.the-type R′.the-laws left _ is .0) .0)) $
-          assigns ! (of-opd ! (load ! (from ! (fld ! refl (stop !))) (look-in ! 7 (sub ! 1 refl (whole !))))) (from ! (stop !)) (init ! 15 refl (tt, tt)) $ closes ! tt T.the-row (left .machine) (vals (left .machine)) b o $
+          (store-raw ! 0 refl (LL.lawful T.the-type T′.the-laws 𝓤 H A W .typed (answer .machine) _ (LL.owed R.the-type R′.the-laws answer _ is .0) .0)) $
+          assigns ! (of-opd ! (load ! (from ! (fld ! refl (stop !))) (look-in ! 7 (sub ! 1 refl (whole !))))) (from ! (stop !)) (init ! 15 refl (tt, tt)) $ closes ! tt T.the-row (answer .machine) (vals (answer .machine)) b o $
           returns ! (look ! 13 refl) $ forget ! 3 refl $ forget ! 5 refl $ forget ! 7 refl $ forget ! 9 refl $ forget ! 11 refl $ forget ! 13 refl $
           move ! (13 ∷ 14 ∷ []) $ free1 ! $ move ! (11 ∷ 12 ∷ []) $ free1 ! $ move ! (9 ∷ 10 ∷ []) $ free1 ! $ move ! (7 ∷ 8 ∷ []) $ free1 ! $ move ! (5 ∷ 6 ∷ []) $ free1 ! $ move ! (3 ∷ 4 ∷ []) $ free1 ! $ free0 ! $
           keep ! (0 ∷ 1 ∷ 2 ∷ []) $ by ! exits))))))))))))
 
-  numbered-walks : (C : Calls 𝓤 H) (Λ : Loops 𝓤 H) → FmC 𝓤 H (W .laws) C → Triple 𝓤 (C #g) G → Walks 𝓤 H A f.ended stayed (WpFn 𝓤 H C Λ code.function) (f.clauses 𝓤 H A at-mem run)
-  numbered-walks C Λ fm known =
-      walked 𝓤 H A f.ended stayed (f.clauses 𝓤 H A at-mem run) (WpFn 𝓤 H C Λ code.function) (λ κs. (ptr-vals, (uint-vals w64, (uint-vals w64, tt)))) (λ κs. (mut-tells (named 0) (κs .0) T.the-row, (uint-tells w64, (uint-tells w64, tt))))
-      (λ κs qs bounds a _ are. via 𝓤 _ (fst∗ 𝓤 _ (emp 𝓤)) (walk (κs .0) (qs .0) (a .0 .ptr .0) (a .0 .ptr .1) (a .0 .name) (a .0 .now) (a .1 .0) (a .1 .1 .0) (are .1 .0 .1) (are .1 .1 .0 .1) C Λ fm known))
-
-  goes : AllGo 𝓤 H A W 1 (f.signature .params) (f.ended .kept) stayed
-  goes = (goes-ref 𝓤 H A W 1 0 tt (plain (λ _. T.the-row)), (goes-none 𝓤 H A W 1 (λ _. u64) yes (λ κs x f. refl), (goes-none 𝓤 H A W 1 (λ _. u64) yes (λ κs x f. refl), tt)))
-
-  numbered-meets : (𝓣 : Tables 𝓤 H) → Triple 𝓤 (𝓣 .C #g) G → Meets 𝓤 H A f.signature (WpFn 𝓤 H (𝓣 .C) (𝓣 .Λ) code.function) (f.spec 𝓤 H A at-mem run)
-  numbered-meets 𝓣 known = walk-meets 𝓤 H A f.ended stayed W goes (f.clauses 𝓤 H A at-mem run) (WpFn 𝓤 H (𝓣 .C) (𝓣 .Λ) code.function) (WpFn-mono 𝓤 H (W .laws) 𝓣 code.function) (numbered-walks (𝓣 .C) (𝓣 .Λ) (fmOf 𝓤 H (W .laws) 𝓣) known)
+  meets : (𝓣 : Tables 𝓤 H) → Triple 𝓤 (𝓣 .C #g) G → Meets 𝓤 H A f.signature (WpFn 𝓤 H (𝓣 .C) (𝓣 .Λ) code.function) (f.spec 𝓤 H A at-mem run)
+  meets 𝓣 known =
+      walk-meets 𝓤 H A f.ended stayed W (goes-ref 𝓤 H A W 1 0 tt (plain (λ _. T.the-row)), (goes-none 𝓤 H A W 1 (λ _. u64) yes (λ κs x f. refl), (goes-none 𝓤 H A W 1 (λ _. u64) yes (λ κs x f. refl), tt))) (f.clauses 𝓤 H A at-mem run)
+      (WpFn 𝓤 H (𝓣 .C) (𝓣 .Λ) code.function) (WpFn-mono 𝓤 H (W .laws) 𝓣 code.function)
+      (walked 𝓤 H A f.ended stayed (f.clauses 𝓤 H A at-mem run) (WpFn 𝓤 H (𝓣 .C) (𝓣 .Λ) code.function) (λ κs. (ptr-vals, (uint-vals w64, (uint-vals w64, tt)))) (λ κs. (mut-tells (named 0) (κs .0) T.the-row, (uint-tells w64, (uint-tells w64, tt))))
+      (λ κs qs bounds a _ are. via 𝓤 _ (fst∗ 𝓤 _ (emp 𝓤)) (walk (κs .0) (qs .0) (a .0 .ptr .0) (a .0 .ptr .1) (a .0 .name) (a .0 .now) (a .1 .0) (a .1 .1 .0) (are .1 .0 .1) (are .1 .1 .0 .1) (𝓣 .C) (𝓣 .Λ) (fmOf 𝓤 H (W .laws) 𝓣) known)))
 
 pub ruonasvel-set-flag-spec : {M : Type 1} → stated.statement M
 unfolding code.routine tablesOf
 ruonasvel-set-flag-spec 𝓤 H 𝓜 𝓖 𝓡 =
     entered 𝓤 H (tripleOf 𝓤 H (𝓖 .A) f.signature (f.spec 𝓤 H (𝓖 .A) (𝓜 .mem) (𝓡 .run)))
     (tables 𝓤 H 𝓜 𝓡 code.env .C) (tables 𝓤 H 𝓜 𝓡 code.env .Λ) #host·ruonasvel-set-flag code.function (code.unfolded 𝓤 H 𝓜 𝓡)
-    (numbered-meets 𝓤 H (𝓖 .A) (givenOf 𝓤 H 𝓜 𝓖) (𝓜 .mem) (𝓡 .run) (tablesOf 𝓤 H 𝓜 (tables 𝓤 H 𝓜 𝓡 code.env))
+    (meets 𝓤 H (𝓖 .A) (givenOf 𝓤 H 𝓜 𝓖) (𝓜 .mem) (𝓡 .run) (tablesOf 𝓤 H 𝓜 (tables 𝓤 H 𝓜 𝓡 code.env))
     (cited 𝓤 H (G 𝓤 H (𝓖 .A) (givenOf 𝓤 H 𝓜 𝓖) (𝓜 .mem) (𝓡 .run)) 𝓜 𝓡 code.env #g g-def.routine code.calls-host·set-numbered (g-thm.met 𝓤 H 𝓜 𝓖 𝓡)))
