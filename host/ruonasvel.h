@@ -14,7 +14,8 @@ struct ruonasvel_machine {
 };
 
 /* Flag 0 is Carry, 1 Parity, 2 Zero, 3 Sign, 4 Direction, 5 Overflow: value 0 clears its bit of rflags, any other value sets it, and the answer is
-   true. Any other number leaves the machine as it is, and the answer is false. `machine` points to a machine, which is lent for the call: nothing else may use it meanwhile. */
+   true. Any other number leaves the machine as it is, and the answer is false. `machine` points to a machine, which is lent for the call: nothing
+   else may use it meanwhile. */
 bool ruonasvel_set_flag(struct ruonasvel_machine *machine, uint64_t flag, uint64_t value);
 
 #endif

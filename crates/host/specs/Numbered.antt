@@ -1,6 +1,6 @@
 -- A flag by its number, for a host that is not written in Rattle and has no `Flags`.
 use mathlib.Core.Bool.{Bool, cond, not}
-use mathlib.Core.List.{List, [], _∷_}
+use mathlib.Core.List.{[], _∷_}
 use Prim.Native.Nat.{ℕ}
 use lib.Dec.{eqb, ltb}
 use lib.ListN.{getD}
@@ -9,7 +9,7 @@ use Rattle.instruction_set.specs.declared.Flags.the-variants.{Carry, Parity, Ze
 use Rattle.machine_state.specs.Flagged.{setFlag}
 use Rattle.machine_state.specs.declared.MachineState.{MachineState}
 
--- 01: "176 to 181 are Carry, Parity, Zero, Sign, Direction, Overflow". Number n names the flag of place 176 + n
+-- 01: "176 to 181 are Carry, Parity, Zero, Sign, Direction, Overflow". Number n names the flag of place 176 + n; past 5 this is not asked
 unfoldable pub flagAt : ℕ → Flags
 flagAt n = getD (Carry ∷ Parity ∷ Zero ∷ Sign ∷ Direction ∷ Overflow ∷ []) n Overflow
 
