@@ -11,6 +11,9 @@ out=$(cd "$2" && pwd)
 program=${3:-oracle}
 main=$program
 [ "$program" != oracle ] || main=main
+# the speed is measured of one unit of code, as Rattle's programs are
+whole=
+[ "$program" != pace ] || whole="-C lto=fat -C codegen-units=1"
 rustc=${RUSTC:-rustc}
 compile() { "$rustc" -C opt-level=3 -C overflow-checks=off -C debug-assertions=off --cap-lints allow -L "$out" "$@"; }
 build() {
@@ -22,4 +25,4 @@ build() {
 build serde_derive --crate-type proc-macro "$here/standins/serde_derive.rs"
 for c in fnv zero bincode; do build $c --crate-type rlib ${RUSTC_WORDS:-} "$here/standins/$c.rs"; done
 build rust --crate-type rlib ${RUSTC_WORDS:-} "$here/src/rust.rs"
-compile --edition 2021 --crate-name "$program" ${RUSTC_WORDS:-} -o "$out/$program" "$here/src/$main.rs"
+compile --edition 2021 --crate-name "$program" ${RUSTC_WORDS:-} $whole -o "$out/$program" "$here/src/$main.rs"
