@@ -124,9 +124,9 @@ pub fn any_name(x: u64) -> Register {
     }
 }
 
-fn some_machine() -> MachineState {
+fn some_machine(turns: u64) -> MachineState {
     let mut m = MachineState::new();
-    let mut x = 1;
+    let mut x = turns >> 40;
     let names = [RAX, RBX, RCX, RDX, RSP, RBP, RSI, RDI, R8, R9, R10, R11, R12, R13, R14, R15, RIP];
     for name in names.iter() {
         x = mix(x, 0);
@@ -136,7 +136,7 @@ fn some_machine() -> MachineState {
 }
 
 fn gets_known(turns: u64) -> u64 {
-    let mut m = some_machine();
+    let mut m = some_machine(turns);
     let mut sum = 1u64;
     for _ in 0..turns {
         m.rax = (sum >> 7) as i64;
@@ -146,7 +146,7 @@ fn gets_known(turns: u64) -> u64 {
 }
 
 fn gets_any(turns: u64) -> u64 {
-    let m = some_machine();
+    let m = some_machine(turns);
     let mut sum = 1u64;
     for _ in 0..turns {
         sum = mix(sum, m.get_register_value(&any_name(sum >> 40)) as u64);
@@ -155,7 +155,7 @@ fn gets_any(turns: u64) -> u64 {
 }
 
 fn sets_known(turns: u64) -> u64 {
-    let mut m = some_machine();
+    let mut m = some_machine(turns);
     let mut sum = 1u64;
     for _ in 0..turns {
         m.set_register_value(&AX, (sum >> 7) as i64);
@@ -165,7 +165,7 @@ fn sets_known(turns: u64) -> u64 {
 }
 
 fn sets_any(turns: u64) -> u64 {
-    let mut m = some_machine();
+    let mut m = some_machine(turns);
     let mut sum = 1u64;
     for _ in 0..turns {
         m.set_register_value(&any_name(sum >> 40), (sum >> 7) as i64);
@@ -175,7 +175,7 @@ fn sets_any(turns: u64) -> u64 {
 }
 
 fn flags(turns: u64) -> u64 {
-    let mut m = some_machine();
+    let mut m = some_machine(turns);
     let mut sum = 1u64;
     for _ in 0..turns {
         m.compute_flags((sum >> 7) as i64, ArgumentSize::Bit32);
@@ -204,7 +204,7 @@ pub fn any_operand(x: u64) -> InstructionArgument {
 }
 
 fn addresses(turns: u64) -> u64 {
-    let m = some_machine();
+    let m = some_machine(turns);
     let mut sum = 1u64;
     for _ in 0..turns {
         sum = mix(sum, m.calculate_effective_address(&any_operand(sum)));
@@ -226,7 +226,7 @@ fn operands(turns: u64) -> u64 {
 }
 
 fn states(turns: u64) -> u64 {
-    let mut m = some_machine();
+    let mut m = some_machine(turns);
     let mut sum = 1u64;
     for _ in 0..turns {
         m.rax = sum as i64;

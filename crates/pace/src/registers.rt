@@ -31,10 +31,10 @@ pub(crate) fn any_name(x: u64) -> Register {
     }
 }
 
-// A machine whose registers differ.
-pub(crate) fn some_machine() -> MachineState {
+// A machine whose registers differ, the same for every count of turns below 2^40: the compiler does not know it beforehand.
+pub(crate) fn some_machine(turns: u64) -> MachineState {
     let mut machine = MachineState::new();
-    let mut x: u64 = 1;
+    let mut x = turns >> 40;
     let mut i: usize = 0;
     while i < 17 {
         x = mix(x, 0);
@@ -45,7 +45,7 @@ pub(crate) fn some_machine() -> MachineState {
 }
 
 fn gets_known(turns: u64) -> u64 {
-    let mut now = some_machine();
+    let mut now = some_machine(turns);
     let mut sum: u64 = 1;
     let mut i: u64 = 0;
     while i < turns {
@@ -57,7 +57,7 @@ fn gets_known(turns: u64) -> u64 {
 }
 
 fn gets_any(turns: u64) -> u64 {
-    let now = some_machine();
+    let now = some_machine(turns);
     let mut sum: u64 = 1;
     let mut i: u64 = 0;
     while i < turns {
@@ -68,7 +68,7 @@ fn gets_any(turns: u64) -> u64 {
 }
 
 fn sets_known(turns: u64) -> u64 {
-    let mut now = some_machine();
+    let mut now = some_machine(turns);
     let mut sum: u64 = 1;
     let mut i: u64 = 0;
     while i < turns {
@@ -81,7 +81,7 @@ fn sets_known(turns: u64) -> u64 {
 
 // The sum takes in rax each turn, and two others at the end.
 fn sets_any(turns: u64) -> u64 {
-    let mut now = some_machine();
+    let mut now = some_machine(turns);
     let mut sum: u64 = 1;
     let mut i: u64 = 0;
     while i < turns {
@@ -99,7 +99,7 @@ fn one_if(yes: bool) -> u64 {
 
 // A turn computes the flags of a result, sets Carry by its low bit, and tests Parity.
 fn flags(turns: u64) -> u64 {
-    let mut now = some_machine();
+    let mut now = some_machine(turns);
     let mut sum: u64 = 1;
     let mut i: u64 = 0;
     while i < turns {
@@ -138,7 +138,7 @@ fn address_of(address: Address) -> u64 {
 }
 
 fn addresses(turns: u64) -> u64 {
-    let now = some_machine();
+    let now = some_machine(turns);
     let mut sum: u64 = 1;
     let mut i: u64 = 0;
     while i < turns {

@@ -35,7 +35,7 @@ pub(crate) fn operands(turns: u64) -> u64 {
 }
 
 pub(crate) fn states(turns: u64) -> u64 {
-    let mut now = some_machine();
+    let mut now = some_machine(turns);
     let mut out = [0u8; 577];
     let mut sum: u64 = 1;
     let mut i: u64 = 0;

@@ -5,10 +5,10 @@ use Rattle.pace.proofs.registers.some_machine.Statement.{statement}
 use Rattle.pace.proofs.registers.some_machine.Tie as tie
 
 abbrev Inv-loop : tie.InvT-loop
-Inv-loop machine₀ x₀ i₀ machine x i = Unit {0}
+Inv-loop turns machine₀ x₀ i₀ machine x i = Unit {0}
 
 abbrev μ-loop : tie.MeasureT-loop
-μ-loop machine₀ x₀ i₀ machine x i = 17 - i
+μ-loop turns machine₀ x₀ i₀ machine x i = 17 - i
 
 pub some-machine-spec : {M : Type 1} → statement M
 some-machine-spec =
