@@ -2,7 +2,7 @@
 ghost use mathlib.Core.Path.{_≡_};
 ghost use Prim.Native.Nat.{_+_, _*_, _≤_, _<_};
 ghost use lib.ListN.{length, take};
-ghost use Rattle.mmu.specs.Store.{storeOf, filled, sound, foundIn, lack, taken};
+ghost use Rattle.mmu.specs.Store.{storeOf, filled, sound, seek, foundIn, lack, taken};
 ghost use Rattle.mmu.specs.Calls.{zeroPage};
 ghost use Rattle.mmu.specs.Parts.{Sound, bytesOf, noBytes};
 use super::Found;
@@ -20,11 +20,45 @@ pub(crate) fn is_store(dir: &[u64], bytes: &[u8], used: usize) -> bool
     bytes.len() == 4096 * dir.len()
 }
 
+fn least(a: usize, b: usize) -> usize
+    ensures { λ r. ⌜ (r ≤ a) × (r ≤ b) ⌝ }
+{
+    if a < b {
+        return a;
+    }
+    b
+}
+
+// A slot that is not past the first one that holds the number: four at a time are passed over.
+fn passed_over(dir: &[u64], used: usize, page: u64) -> usize
+    ensures { λ r. ⌜ (r ≤ used) × (r ≤ length (now (dir .entry))) × (r ≤ seek (take used (now (dir .entry))) page) ⌝ }
+{
+    let mut i: usize = 0;
+    let mut left = least(used, dir.len());
+    while 4 <= left {
+        if dir[i] == page {
+            return i;
+        }
+        if dir[i + 1] == page {
+            return i;
+        }
+        if dir[i + 2] == page {
+            return i;
+        }
+        if dir[i + 3] == page {
+            return i;
+        }
+        i += 4;
+        left -= 4;
+    }
+    i
+}
+
 // The first slot in use that holds the number (01: "a loop over slots yields the slot number or none by break").
 pub(crate) fn find_page(dir: &[u64], used: usize, page: u64) -> Found
     ensures { λ r. ⌜ r ≡ foundIn (take used (now (dir .entry))) page ⌝ }
 {
-    let mut i: usize = 0;
+    let mut i = passed_over(dir, used, page);
     let found = loop {
         if used <= i {
             break Found::Nothing;

@@ -22,21 +22,22 @@ find-page-spec =
     (tie.spec
     Inv-loop
     μ-loop
+    (λ c κs. search needs)
     (λ c. search needs)
     (λ c. search needs)
     (λ c. search needs)
     (λ c. search needs)
     (λ c. search needs)
-    (λ c. let s = c .before .before .before .before .before .args in
+    (λ c. let s = c .before .before .before .before .before .before .before .args in
     let i = c .before .before .before .before .loop .i in
     let l = take (s .used) (s .dir .now) in
     let inside : i < length l = take-long (s .used) (s .dir .now) i (omega arith) (omega arith) in
     (omega arith, omega arith, seek-more l (s .page) i (c .before .before .before .before .loop .inv .2) inside (λ e. c .if3 .left (sym (getD-take (s .used) (s .dir .now) i 0 (omega arith)) ∙ e))))
-    (λ c. let s = c .before .before .args in
-    sym (found-none (take (s .used) (s .dir .now)) (s .page) (omega (arith, take-short (s .used) (s .dir .now)))))
-    (λ c. let s = c .before .before .before .args in
+    (λ c. let s = c .before .before .before .before .args in
     sym (found-none (take (s .used) (s .dir .now)) (s .page) (omega (arith, take-short (s .used) (s .dir .now)))))
     (λ c. let s = c .before .before .before .before .before .args in
+    sym (found-none (take (s .used) (s .dir .now)) (s .page) (omega (arith, take-short (s .used) (s .dir .now)))))
+    (λ c. let s = c .before .before .before .before .before .before .before .args in
     let i = c .before .before .before .before .loop .i in
     let l = take (s .used) (s .dir .now) in
     let inside : i < length l = take-long (s .used) (s .dir .now) i (omega arith) (omega arith) in

@@ -1,0 +1,27 @@
+-- `pace::registers::gets_any` is safe and ends: the turns are counted up. Assumes nothing.
+use Prim.Native.Nat.{_-_}
+use borrow.Author.Needs.{needs}
+use Rattle.pace.proofs.registers.gets_any.Statement.{statement}
+use Rattle.pace.proofs.registers.gets_any.Tie as tie
+
+abbrev Inv-loop : tie.InvT-loop
+Inv-loop turns now sum₀ i₀ sum i = Unit {0}
+
+abbrev μ-loop : tie.MeasureT-loop
+μ-loop turns now sum₀ i₀ sum i = turns - i
+
+pub gets-any-spec : {M : Type 1} → statement M
+gets-any-spec =
+    tie.close
+    (tie.spec
+    Inv-loop
+    μ-loop
+    (λ c κs. search needs)
+    (λ c. search needs)
+    (λ c κs. search needs)
+    (λ c κs. search needs)
+    (λ c κs. search needs)
+    (λ c. search needs)
+    (λ c. search needs)
+    (λ c. search needs)
+    (λ c. search needs))

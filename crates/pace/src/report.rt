@@ -1,0 +1,78 @@
+// The exposed report of 64 calls. Each turn puts another call into the list, and the sum takes in one place of the report.
+use super::mix;
+use super::registers::any_name;
+use super::registers::any_operand;
+use calls::Call;
+use exposed::CallEntry;
+use exposed::Report;
+use instruction_set::ArgumentSize;
+use instruction_set::Flags;
+use instruction_set::InstructionArgument;
+
+// A call of each kind, by the sum.
+fn any_call(x: u64) -> Call {
+    let size = ArgumentSize::Bit32;
+    let register = InstructionArgument::Register {
+        register: any_name(x),
+    };
+    match x / 16 % 8 {
+        0 => Call::ReadOperand {
+            argument: register,
+            size,
+        },
+        1 => Call::WriteOperand {
+            argument: register,
+            size,
+            value: x,
+        },
+        2 => Call::ReadOperand {
+            argument: any_operand(x),
+            size,
+        },
+        3 => Call::Push,
+        4 => Call::WriteMemory { address: x },
+        5 => Call::TestFlag { flag: Flags::Zero },
+        6 => Call::SetFlag {
+            flag: Flags::Carry,
+            value: true,
+        },
+        _ => Call::ComputeFlags { result: x, size },
+    }
+}
+
+fn some_calls() -> [CallEntry; 64] {
+    let mut list = [CallEntry { call: Call::Pop }; 64];
+    let mut x: u64 = 1;
+    let mut i: usize = 0;
+    while i < 64 {
+        x = mix(x, 0);
+        list[i] = CallEntry {
+            call: any_call(x >> 30),
+        };
+        i += 1;
+    }
+    list
+}
+
+fn place(report: Report, k: usize) -> u64 {
+    if k < 182 && report.places[k] {
+        return 1;
+    }
+    0
+}
+
+pub(crate) fn reports(turns: u64) -> u64 {
+    let mut list = some_calls();
+    let mut sum: u64 = 1;
+    let mut i: u64 = 0;
+    while i < turns {
+        let k = (sum >> 50) as usize % 64;
+        list[k] = CallEntry {
+            call: any_call(sum >> 30),
+        };
+        let report = exposed::exposed_places(list, 64);
+        sum = mix(sum, place(report, (sum >> 40) as usize % 182));
+        i += 1;
+    }
+    sum
+}
