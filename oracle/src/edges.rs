@@ -2,14 +2,14 @@
 use crate::random::{plant, Rng};
 use crate::session::*;
 
-const EDGES: [u64; 26] = [
+pub const EDGES: [u64; 26] = [
     0, 1, 2, 0x7f, 0x80, 0x81, 0xff, 0x100, 0x7fff, 0x8000, 0x8080, 0xffff, 0x1_0000, 0x7fff_ffff, 0x8000_0000, 0x8000_8080, 0xffff_ffff,
     0x1_0000_0000, 0x1_ffff_ffff, 0x0123_4567_89ab_cdef, 0xfedc_ba98_7654_3210, 0x7fff_ffff_ffff_ffff, 0x8000_0000_0000_0000, 0xffff_ffff_ffff_ff00,
     0xffff_ffff_0000_0000, 0xffff_ffff_ffff_ffff,
 ];
 
 /// Distinct words, so that a wrong register shows.
-fn pattern(k: u64) -> [u64; 25] {
+pub fn pattern(k: u64) -> [u64; 25] {
     let mut g = Rng(k);
     let mut w = [0u64; 25];
     for v in w.iter_mut() { *v = g.next() | 0x8080_8080_8080_8080; }
@@ -113,7 +113,8 @@ fn values(s: &mut Session) {
 }
 /// Both ends of pages and of the address space; stale bytes in slots.
 fn page_ends(s: &mut Session) {
-    let tops: [u64; 12] = [0, 1, 4088, 4095, 4096, 8191, 0x7fff, 1 << 32, (1 << 52) - 3, 0xffff_ffff_ffff_f000, 0xffff_ffff_ffff_fff8, 0xffff_ffff_ffff_ffff];
+    let tops: [u64; 12] = [0, 1, 4088, 4095, 4096, 8191, 0x7fff, 1 << 32, (1 << 52) - 3, 0xffff_ffff_ffff_f000, 0xffff_ffff_ffff_fff8,
+        0xffff_ffff_ffff_ffff];
     for a in tops.iter() {
         s.reset(&same(*a), 16, &[], 0xEE);
         for n in [1u64, 2, 8, 9] {
@@ -154,13 +155,17 @@ fn video(s: &mut Session) {
     }
 }
 /// Walks from tables anywhere to targets anywhere. In the first walks every bit of the address's three indexes counts.
-fn walks(s: &mut Session, n: u64) {
+fn walks(s: &mut Session, n: u64, slots: usize) {
     for k in 0..n {
         let mut g = Rng(1000 + k);
         let cr3 = [0x1000, 0x1ffc, 0x1ff9, 0xffff_ffff_ffff_fff8, 0xffff_ffff_ffff_fffc, 1, 0x2345][(k % 7) as usize];
-        let linear = match k % 3 { 0 => (1 << 39 + k % 9) | (1 << 30 + k / 2 % 9) | (1 << 21 + k / 3 % 9) | g.below(0x20_0000), 1 => g.next(), _ => g.value() };
+        let linear = match k % 3 {
+            0 => (1 << 39 + k % 9) | (1 << 30 + k / 2 % 9) | (1 << 21 + k / 3 % 9) | g.below(0x20_0000),
+            1 => g.next(),
+            _ => g.value(),
+        };
         let target = match k % 4 { 0 => 0x60_0000, 1 => 0xffff_ffff_ffff_f000, 2 => 0xB8000u64.wrapping_sub(linear & 0x1f_f000), _ => g.next() };
-        s.reset(&pattern(k), 32, &[], 0xEE);
+        s.reset(&pattern(k), slots, &[], 0xEE);
         plant(s, &mut g, cr3, linear, target);
         s.write(register(19), 0, cr3);
         s.read_memory(linear, 8);
@@ -194,7 +199,8 @@ fn stack(s: &mut Session, lengths: &mut dyn Iterator<Item = u64>) {
 }
 /// Size selection and access, over operands of every kind and register of every size.
 fn arguments(s: &mut Session, step: usize) {
-    let few = [[0; 5], immediate(0xffff_ffff_ffff_ff80), at(-1), address(6, 0, 7, -8), address(0, 3, 9, 0x7fff_ffff), address(0, 3, 0, 1), register(0), register(30), register(40), register(57), register(79)];
+    let few = [[0; 5], immediate(0xffff_ffff_ffff_ff80), at(-1), address(6, 0, 7, -8), address(0, 3, 9, 0x7fff_ffff), address(0, 3, 0, 1),
+        register(0), register(30), register(40), register(57), register(79)];
     s.reset(&pattern(11), 1, &[], 0);
     let mut k = 0;
     for a in few {
@@ -225,20 +231,22 @@ pub fn all(s: &mut Session) {
     values(s);
     page_ends(s);
     video(s);
-    walks(s, 2000);
+    walks(s, 2000, 32);
     stack(s, &mut (1..=4096));
     arguments(s, 1);
+    crate::texts::all(s);
 }
 
 pub fn sample(s: &mut Session) {
     register_reads(s, &[0x8000_8080, 0xfedc_ba98_7654_3210, 0x7fff_7f7f, 0xffff_ffff_ffff_ffff]);
     register_writes(s, &[0x0123_4567_89ab_cdef, 0x8000_8080], 16);
     flags(s, &[0, 1, 0x7f, 0x80, 0xfe, 0x100, 0x8000, 0x8000_0000, 0x1_0000_0000, 0x8000_0000_0000_0000]);
-    operands(s, &[0, 1, 9, 256], &[0, i32::MIN]);
+    operands(s, &[0, 9, 256], &[0, i32::MIN]);
     values(s);
     page_ends(s);
     video(s);
-    walks(s, 42);
+    walks(s, 42, 16);
     stack(s, &mut [1, 2, 3, 7, 8, 9, 16, 255, 4095, 4096].into_iter());
     arguments(s, 7);
+    crate::texts::sample(s);
 }

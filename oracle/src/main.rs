@@ -1,12 +1,13 @@
 //! oracle MODE CALLS ANSWERS [SEED SEQUENCES FIRST]: writes a stream of calls, and the answers that the Rust gives, in the format of
 //! docs/FORMAT.md. Prints the number of calls on standard error: resets, loads and shows are not counted.
-//!   edges              registers, flags, operands, memory, walks, pushes and arguments at their edges; the same at every run
+//!   edges              registers, flags, operands, memory, walks, pushes, arguments and texts at their edges; the same at every run
 //!   random             SEQUENCES sequences of mixed calls drawn from SEED, from the one numbered FIRST on, each with a dump at its end
 //!   sample             a choice of both, for the stored sample
 extern crate rust;
 mod edges;
 mod random;
 mod session;
+mod texts;
 use session::Session;
 
 fn main() {
@@ -24,8 +25,10 @@ fn main() {
             "edges" => edges::all(&mut s),
             "random" => random::sequences(&mut s, number(4), number(6)..number(6) + number(5), 300, 64),
             "sample" => {
+                // the kit stores no more than 1,048,576 bytes of answers
+                s.shown = 1024;
                 edges::sample(&mut s);
-                random::sequences(&mut s, 20260101, 0..10, 90, 3);
+                random::sequences(&mut s, 20260101, 0..10, 80, 3);
             }
             _ => panic!("no such mode: {}", a[1]),
         }

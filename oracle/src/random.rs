@@ -92,7 +92,9 @@ pub fn plant(s: &mut Session, g: &mut Rng, cr3: u64, linear: u64, target: u64) {
 
 fn start(s: &mut Session, g: &mut Rng, slots: usize) -> Places {
     let mut hot = vec![0, 1, 2, 0xB8, (1 << 52) - 1];
-    for _ in 0..4 { hot.push(match g.below(4) { 0 => g.below(16), 1 => g.next() >> 12, 2 => (g.value() >> 12) & 0xf_ffff_ffff_ffff, _ => 3 + g.below(8) }); }
+    for _ in 0..4 {
+        hot.push(match g.below(4) { 0 => g.below(16), 1 => g.next() >> 12, 2 => (g.value() >> 12) & 0xf_ffff_ffff_ffff, _ => 3 + g.below(8) });
+    }
     let mut p = Places { hot, walked: vec![] };
     let mut w = [0u64; 25];
     let edge = g.below(4);
@@ -114,7 +116,12 @@ fn start(s: &mut Session, g: &mut Rng, slots: usize) -> Places {
         if cr3 != 0 {
             for _ in 0..2 {
                 let linear = match g.below(4) { 0 => g.below(0x40_0000), 1 => 0x4020_0000 + g.below(0x20_0000), 2 => g.next(), _ => g.value() };
-                let target = match g.below(6) { 0 => 0xB8000u64.wrapping_sub(linear & 0x1f_f000), 1 => 0u64.wrapping_sub(0x1000 * g.below(0x201)), 2 => g.next(), _ => 0x4000 * g.below(8) };
+                let target = match g.below(6) {
+                    0 => 0xB8000u64.wrapping_sub(linear & 0x1f_f000),
+                    1 => 0u64.wrapping_sub(0x1000 * g.below(0x201)),
+                    2 => g.next(),
+                    _ => 0x4000 * g.below(8),
+                };
                 plant(s, g, cr3, linear, target);
                 p.walked.push(linear);
             }
@@ -124,7 +131,9 @@ fn start(s: &mut Session, g: &mut Rng, slots: usize) -> Places {
     p
 }
 
+/// One call in eight is a text.
 fn one(s: &mut Session, g: &mut Rng, p: &Places) {
+    if g.below(8) == 0 { return crate::texts::random(s, g, |g| p.operand(g)); }
     let size = g.below(4);
     let mut kind = g.below(24);
     if !s.room() && (matches!(kind, 3 | 4 | 5 | 7 | 8 | 10 | 11)) { kind = 0; }

@@ -48,7 +48,7 @@ fn flag(i: u64) -> Flags {
         _ => Flags::Overflow,
     }
 }
-fn size(i: u64) -> ArgumentSize {
+pub fn size(i: u64) -> ArgumentSize {
     match i {
         0 => ArgumentSize::Bit64,
         1 => ArgumentSize::Bit32,
@@ -65,7 +65,7 @@ pub fn register(n: u64) -> Op { [2, n + 1, 0, 0, 0] }
 pub fn address(base: u64, index: u64, scale: u64, displacement: i32) -> Op { [3, base, index, scale, displacement as i64 as u64] }
 pub fn at(displacement: i32) -> Op { address(0, 0, 0, displacement) }
 
-fn argument(w: Op) -> Option<InstructionArgument> {
+pub fn argument(w: Op) -> Option<InstructionArgument> {
     let reg = |n: u64| if n == 0 { None } else { Some(REGS[n as usize - 1]) };
     Some(match w[0] {
         0 => return None,
@@ -108,8 +108,18 @@ pub fn machine(w: &[u64; 25]) -> MachineState {
     m
 }
 
+/// The arguments record of a header, by the Rust's builder. Words 4 and 5 are the repeats.
+pub fn built(h: &[u64; 16]) -> InstructionArguments {
+    let mut b = InstructionArgumentsBuilder::new();
+    if let Some(v) = argument(h[6..11].try_into().unwrap()) { b = b.first_argument(v) }
+    if let Some(v) = argument(h[11..16].try_into().unwrap()) { b = b.second_argument(v) }
+    if h[3] > 0 { b = b.opcode((h[3] - 1) as u8) }
+    if h[2] < 4 { b = b.explicit_size(size(h[2])) }
+    b.repeat(h[4] == 1, h[5] == 1).finalize()
+}
+
 /// The refusal number of a panic's text.
-fn refusal(e: Box<dyn std::any::Any + Send>) -> u64 {
+pub fn refusal(e: Box<dyn std::any::Any + Send>) -> u64 {
     let t = e.downcast_ref::<&str>().map(|s| s.to_string()).or(e.downcast_ref::<String>().cloned()).unwrap();
     match t.as_str() {
         "internal error: entered unreachable code" => 1,
@@ -130,14 +140,14 @@ extern "C" {
     fn memfd_create(name: *const u8, flags: u32) -> i32;
 }
 /// What the Rust prints goes to a file in memory, and is taken from there after each call.
-struct Printed { file: File, at: u64 }
+pub struct Printed { file: File, at: u64 }
 impl Printed {
     fn new() -> Printed {
         let file = unsafe { File::from_raw_fd(memfd_create(b"printed\0".as_ptr(), 0)) };
         unsafe { dup2(file.as_raw_fd(), 1) };
         Printed { file, at: 0 }
     }
-    fn take(&mut self) -> Vec<u8> {
+    pub fn take(&mut self) -> Vec<u8> {
         io::stdout().flush().unwrap();
         let end = self.file.metadata().unwrap().len();
         let mut v = vec![0; (end - self.at) as usize];
@@ -167,16 +177,19 @@ pub struct Session {
     dir: Vec<u64>,
     used: usize,
     fill: u8,
+    /// How many bytes of a page a dump shows.
+    pub shown: usize,
     calls: BufWriter<File>,
     answers: BufWriter<File>,
-    printed: Printed,
+    pub printed: Printed,
     pub counted: u64,
 }
 
 impl Session {
     pub fn new(calls: &str, answers: &str) -> Session {
         let open = |name: &str| BufWriter::with_capacity(1 << 16, File::create(name).unwrap());
-        Session { m: MachineState::new(), dir: vec![], used: 0, fill: 0, calls: open(calls), answers: open(answers), printed: Printed::new(), counted: 0 }
+        let (m, calls, answers) = (MachineState::new(), open(calls), open(answers));
+        Session { m, dir: vec![], used: 0, fill: 0, shown: 4096, calls, answers, printed: Printed::new(), counted: 0 }
     }
     pub fn finish(&mut self) {
         self.calls.flush().unwrap();
@@ -185,7 +198,7 @@ impl Session {
     /// Whether a write that touches two absent pages still finds room.
     pub fn room(&self) -> bool { self.used + 2 <= self.dir.len() }
 
-    fn put(&mut self, h: &[u64; 16], block: &[u8], mut a: [u64; 8], lent: &[u8]) {
+    pub fn put(&mut self, h: &[u64; 16], block: &[u8], mut a: [u64; 8], lent: &[u8]) {
         a[6] = self.used as u64;
         a[7] = lent.len() as u64;
         self.calls.write_all(&bytes_of(h)).unwrap();
@@ -232,7 +245,7 @@ impl Session {
         self.put(&h, &[], [0; 8], &bytes[from..from + n]);
     }
 
-    /// Everything: the machine, the directory by 01's rule, the Rust's pages by their bytes, and a slot that no page has taken.
+    /// Everything: the machine, the directory by 01's rule, the Rust's pages by their bytes (the first `most`), and a slot that no page has taken.
     pub fn dump(&mut self, most: usize) {
         self.show_machine();
         let mut h = [0u64; 16];
@@ -241,7 +254,11 @@ impl Session {
         self.put(&h, &[], [0; 8], &w);
         let mut pages: Vec<u64> = self.m.memory.keys().cloned().collect();
         pages.sort();
-        for page in pages.into_iter().take(most) { self.view(page, 0, 4096); }
+        for page in pages.into_iter().take(most) {
+            // where not all is shown, it is from the first byte on that is not 0
+            let from = self.m.memory[&page].iter().position(|b| *b != 0).unwrap_or(0).min(4096 - self.shown);
+            self.view(page, from, self.shown);
+        }
         if self.used < self.dir.len() {
             let mut h = [0u64; 16];
             h[..5].copy_from_slice(&[SHOW_BYTES, 0, 0, 4096 * self.used as u64, 16]);
@@ -264,14 +281,12 @@ impl Session {
 
     fn record(&mut self, h: [u64; 16], block: &[u8]) {
         let mut lent: Vec<u8> = if h[0] == READ_MEMORY { vec![h[5] as u8; h[4] as usize] } else { block.to_vec() };
-        let first: Op = h[6..11].try_into().unwrap();
-        let second: Op = h[11..16].try_into().unwrap();
         let mut touched: Option<(u64, u64)> = None;
         let outcome = {
             let (m, lent, touched) = (AssertUnwindSafe(&mut self.m), AssertUnwindSafe(&mut lent), AssertUnwindSafe(&mut touched));
             panic::catch_unwind(move || {
                 let (AssertUnwindSafe(m), AssertUnwindSafe(lent), AssertUnwindSafe(touched)) = (m, lent, touched);
-                carry_out(&h, first, second, m, lent, touched)
+                carry_out(&h, m, lent, touched)
             })
         };
         let mut a = [0u64; 8];
@@ -329,7 +344,8 @@ impl Session {
 }
 
 /// The Rust's own answer to one record: what the value is (0 nothing, 1 a value, 2 a truth), and the value.
-fn carry_out(h: &[u64; 16], first: Op, second: Op, m: &mut MachineState, lent: &mut Vec<u8>, touched: &mut Option<(u64, u64)>) -> (u64, u64) {
+fn carry_out(h: &[u64; 16], m: &mut MachineState, lent: &mut Vec<u8>, touched: &mut Option<(u64, u64)>) -> (u64, u64) {
+    let first: Op = h[6..11].try_into().unwrap();
     match h[0] {
         READ => (1, m.get_value(&argument(first).unwrap(), size(h[2])) as u64),
         WRITE => {
@@ -370,12 +386,7 @@ fn carry_out(h: &[u64; 16], first: Op, second: Op, m: &mut MachineState, lent: &
         }
         READ_BYTE => (1, m.mem_read_byte(h[3]) as u64),
         _ => {
-            let mut b = InstructionArgumentsBuilder::new();
-            if let Some(v) = argument(first) { b = b.first_argument(v) }
-            if let Some(v) = argument(second) { b = b.second_argument(v) }
-            if h[3] > 0 { b = b.opcode((h[3] - 1) as u8) }
-            if h[2] < 4 { b = b.explicit_size(size(h[2])) }
-            let args = b.repeat(h[4] == 1, h[5] == 1).finalize();
+            let args = built(h);
             match h[0] {
                 SIZE => (1, args.size() as u64),
                 ONE => {

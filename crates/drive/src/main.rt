@@ -1,25 +1,21 @@
 // Calls in, answers out: reads records from standard input, carries each out and writes its answer to standard output, until the input ends
 // (docs/FORMAT.md). The machine goes from record to record by value; the store lies in arrays of main's, lent downwards. Everything but reading
-// and writing is records', below. tools/compare feeds this program the calls that the Rust was given, and compares the answers.
+// and writing is in records and session, below. tools/compare feeds this program the calls that the Rust was given, and compares the answers.
 use libc::STDERR_FILENO;
 use libc::STDIN_FILENO;
 use libc::STDOUT_FILENO;
+use machine_state::MachineState;
 use records::Header;
-use records::Session;
+use records::Reply;
 
-// Where the program stands: the session, whether to go on, and how many records were answered.
+// Where the program stands: the machine, how much of the arrays is the store, the slots in use, whether to go on, and how many records were answered.
 struct Run {
-    session: Session,
+    machine: MachineState,
+    slots: usize,
+    length: usize,
+    used: usize,
     more: bool,
     answered: u64,
-}
-
-fn stop(session: Session, answered: u64) -> Run {
-    Run {
-        session,
-        more: false,
-        answered,
-    }
 }
 
 // Says on standard error which record could not be carried out, and ends.
@@ -27,8 +23,7 @@ fn complain(what: &[u8], run: Run) -> Run {
     io::write_all(STDERR_FILENO, b"drive: record ");
     io::print_decimal(STDERR_FILENO, run.answered);
     io::write_all(STDERR_FILENO, what);
-    let session = run.session;
-    stop(session, run.answered)
+    Run { more: false, ..run }
 }
 
 fn read_block(n: usize, block: &mut [u8]) -> bool {
@@ -42,8 +37,8 @@ fn read_block(n: usize, block: &mut [u8]) -> bool {
     got == n
 }
 
-fn write_answer(reply: records::Reply, block: &[u8]) -> bool {
-    let n = reply.lent;
+fn write_answer(reply: Reply, block: &[u8]) -> bool {
+    let n = reply.given;
     let out = records::encode(reply);
     if !io::write_all(STDOUT_FILENO, &out) {
         return false;
@@ -54,6 +49,92 @@ fn write_answer(reply: records::Reply, block: &[u8]) -> bool {
     io::write_all(STDOUT_FILENO, &block[..n])
 }
 
+// The answer, and where the program stands after it.
+fn answer(reply: Reply, run: Run, block: &[u8]) -> Run {
+    if !reply.formed {
+        return complain(b" is malformed\n", run);
+    }
+    if !write_answer(reply, block) {
+        return complain(b": the answer could not be written\n", run);
+    }
+    let machine = reply.machine;
+    Run {
+        machine,
+        slots: run.slots,
+        length: run.length,
+        used: reply.used,
+        more: true,
+        answered: std::num::wrapping_add_u64(run.answered, 1),
+    }
+}
+
+// How many of the block's bytes are lent to the record: a read and a text have a buffer of b bytes, a report all; the others the bytes that follow.
+fn lent_length(header: Header) -> usize {
+    let kind = header.kind;
+    match kind {
+        6 | 32 | 33 | 34 | 35 | 36 | 37 => header.b as usize,
+        1 | 2 | 3 | 4 | 5 | 7 | 8 | 9 | 10 | 25 => header.length as usize,
+        _ => 8192,
+    }
+}
+
+// Whether a record is lent a buffer, each byte of it the low byte of c.
+fn fills(kind: u64) -> bool {
+    match kind {
+        6 | 32 | 33 | 34 | 35 | 36 | 37 => true,
+        _ => false,
+    }
+}
+
+// Carries out a record on the parts of the arrays that are its buffer and the store.
+fn carried(
+    header: Header,
+    run: Run,
+    block: &mut [u8],
+    n: usize,
+    dir: &mut [u64],
+    bytes: &mut [u8],
+) -> Reply {
+    let slots = run.slots;
+    let length = run.length;
+    let machine = run.machine;
+    if block.len() < n {
+        return session::malformed(machine, run.used);
+    }
+    if dir.len() < slots {
+        return session::malformed(machine, run.used);
+    }
+    if bytes.len() < length {
+        return session::malformed(machine, run.used);
+    }
+    session::carry_out(
+        header,
+        machine,
+        &mut block[..n],
+        &mut dir[..slots],
+        &mut bytes[..length],
+        run.used,
+    )
+}
+
+fn restart(header: Header, run: Run, block: &[u8], dir: &mut [u64], bytes: &mut [u8]) -> Run {
+    let start = session::reset_to(header, block, dir, bytes);
+    if !start.formed {
+        return complain(b" is malformed\n", run);
+    }
+    let machine = start.machine;
+    let reply = session::quiet(machine, start.used, 0, 0, 0, 0);
+    let fresh = Run {
+        machine,
+        slots: start.slots,
+        length: start.length,
+        used: start.used,
+        more: true,
+        answered: run.answered,
+    };
+    answer(reply, fresh, block)
+}
+
 fn carry_out(
     header: Header,
     run: Run,
@@ -61,20 +142,20 @@ fn carry_out(
     dir: &mut [u64],
     bytes: &mut [u8],
 ) -> Run {
-    let session = run.session;
-    let reply = records::carry_out(header, session, block, dir, bytes);
-    if !reply.formed {
-        return complain(b" is malformed\n", run);
+    if header.kind == records::RESET {
+        return restart(header, run, block, dir, bytes);
     }
-    if !write_answer(reply, block) {
-        return complain(b": the answer could not be written\n", run);
+    let machine = run.machine;
+    if header.kind == records::REPORT {
+        let report = session::exposed_report(header, machine, block, run.used);
+        return answer(report, run, block);
     }
-    let after = reply.session;
-    Run {
-        session: after,
-        more: true,
-        answered: std::num::wrapping_add_u64(run.answered, 1),
+    let n = lent_length(header);
+    if fills(header.kind) {
+        records::fill(block, n, (header.c % 256) as u8);
     }
+    let reply = carried(header, run, block, n, dir, bytes);
+    answer(reply, run, block)
 }
 
 // One record.
@@ -82,15 +163,13 @@ fn one(run: Run, block: &mut [u8; 8192], dir: &mut [u64], bytes: &mut [u8]) -> R
     let mut record = [0u8; 128];
     let got = io::read_full(STDIN_FILENO, &mut record);
     if got == 0 {
-        let session = run.session;
-        return stop(session, run.answered);
+        return Run { more: false, ..run };
     }
     if got < 128 {
         return complain(b" is cut short\n", run);
     }
-    let header = records::read_header(&record);
-    let n = records::block_length(header);
-    if !read_block(n, block) {
+    let header = records::header_in(&record, 0);
+    if !read_block(header.length as usize, block) {
         return complain(b": its block is too long or cut short\n", run);
     }
     carry_out(header, run, block, dir, bytes)
@@ -116,7 +195,10 @@ fn main() {
     let mut dir = [0u64; 128];
     let mut bytes = [0u8; 524288];
     let run = Run {
-        session: records::new_session(),
+        machine: MachineState::new(),
+        slots: 0,
+        length: 0,
+        used: 0,
         more: true,
         answered: 0,
     };

@@ -1,1 +1,3 @@
+pub mod Runs
 pub mod Narrow
+pub mod Parts

@@ -1,9 +1,13 @@
--- The place of each register among the 80, in the Rust's order, and what it says that a place was looked up. Assumes nothing.
+-- The numbers of docs/FORMAT.md: registers, sizes, flags, refusals and events. Registers, sizes and flags are numbered in the Rust's order.
 use Prim.Native.Nat.{ℕ}
+use Rattle.instruction_set.specs.declared.ArgumentSize.{ArgumentSize}
+use Rattle.instruction_set.specs.declared.ArgumentSize.the-variants.{Bit64, Bit32, Bit16, Bit8}
+use Rattle.instruction_set.specs.declared.Flags.{Flags}
+use Rattle.instruction_set.specs.declared.Flags.the-variants.{Carry, Parity, Zero, Sign, Direction, Overflow}
 use Rattle.instruction_set.specs.declared.Register.{Register}
 use Rattle.instruction_set.specs.declared.Register.the-variants as reg
-use Rattle.instruction_set.specs.declared.SomeRegister.{SomeRegister}
-use Rattle.instruction_set.specs.declared.SomeRegister.the-variants as some
+use Rattle.machine_state.specs.declared.Event.{Event}
+use Rattle.machine_state.specs.declared.Event.the-variants.{Quiet, Control, Video}
 
 unfoldable pub numberOf : Register → ℕ
 numberOf reg.RAX = 0
@@ -87,7 +91,32 @@ numberOf reg.DS = 77
 numberOf reg.FS = 78
 numberOf reg.GS = 79
 
--- the place of the register that was found at n; where none was, nothing is said
-unfoldable pub placeAt : ℕ → SomeRegister → ℕ
-placeAt n some.Absent = n
-placeAt n (some.Present r) = numberOf r
+abbrev pub sizeNumber : ArgumentSize → ℕ
+sizeNumber Bit64 = 0
+sizeNumber Bit32 = 1
+sizeNumber Bit16 = 2
+sizeNumber Bit8 = 3
+
+abbrev pub flagNumber : Flags → ℕ
+flagNumber Carry = 0
+flagNumber Parity = 1
+flagNumber Zero = 2
+flagNumber Sign = 3
+flagNumber Direction = 4
+flagNumber Overflow = 5
+
+-- an event's three words: what it is, the register, and the value written or the byte shown
+abbrev pub eventKind : Event → ℕ
+eventKind Quiet = 0
+eventKind (Control r v) = 1
+eventKind (Video b) = 2
+
+abbrev pub eventRegister : Event → ℕ
+eventRegister Quiet = 0
+eventRegister (Control r v) = numberOf r
+eventRegister (Video b) = 0
+
+abbrev pub eventValue : Event → ℕ
+eventValue Quiet = 0
+eventValue (Control r v) = v
+eventValue (Video b) = b

@@ -1,45 +1,56 @@
-// Words and runs of bytes within lent slices. Each function takes every place: past the end it reads 0, or writes nothing.
+// Words and runs of bytes within lent slices. Each function takes every place: past the end it reads 0, or writes nothing and says so.
+ghost use mathlib.Core.Path.{_≡_};
+ghost use mathlib.Core.Bool.{_&&_};
+ghost use Prim.Native.Nat.{ℕ, _+_, _*_, _≤_};
+ghost use lib.ListN.{length};
+ghost use Rattle.records.specs.Words.{room, wordFrom, wordAt, byteIn, bytesOf, Put};
 
-// at + n, or the largest number where that is more.
-pub(crate) fn after(at: usize, n: usize) -> usize {
-    if usize::MAX - n < at {
-        return usize::MAX;
-    }
-    at + n
-}
-
-// The eight bytes at a place, low byte first.
-pub(crate) fn word_at(s: &[u8], at: usize) -> u64 {
-    if s.len() < 8 {
-        return 0;
-    }
-    if s.len() - 8 < at {
-        return 0;
-    }
+// The eight bytes from `at` on, low byte first.
+fn word_from(bytes: &[u8], at: usize) -> u64
+    requires { ⌜ at + 8 ≤ length (now bytes) ⌝ }
+    ensures { λ r. ⌜ r ≡ wordFrom (now (bytes .entry)) at ⌝ }
+{
     utils::bytes_to_word([
-        s[at],
-        s[at + 1],
-        s[at + 2],
-        s[at + 3],
-        s[at + 4],
-        s[at + 5],
-        s[at + 6],
-        s[at + 7],
+        bytes[at],
+        bytes[at + 1],
+        bytes[at + 2],
+        bytes[at + 3],
+        bytes[at + 4],
+        bytes[at + 5],
+        bytes[at + 6],
+        bytes[at + 7],
     ])
 }
 
-// n bytes of src from `from` on go to dst from `at` on; answers whether both have room for them.
-pub(crate) fn copy(dst: &mut [u8], at: usize, src: &[u8], from: usize, n: usize) -> bool {
-    if dst.len() < at {
+pub fn word_at(bytes: &[u8], at: usize) -> u64
+    ensures { λ r. ⌜ r ≡ wordAt (now (bytes .entry)) at ⌝ }
+{
+    if has_room(bytes.len(), at, 8) {
+        word_from(bytes, at)
+    } else {
+        0
+    }
+}
+
+// Whether n places from `at` on lie within so many.
+pub(crate) fn has_room(length: usize, at: usize, n: usize) -> bool
+    ensures { λ r. ⌜ r ≡ room length at n ⌝ }
+{
+    if length < at {
         return false;
     }
-    if dst.len() - at < n {
+    n <= length - at
+}
+
+// n bytes of src from `from` on go to dst from `at` on, where both have room for them.
+pub fn copy(dst: &mut [u8], at: usize, src: &[u8], from: usize, n: usize) -> bool
+    ensures { λ r. ⌜ Put (room (length (now (src .entry))) from n && room (length (now (dst .entry))) at n)
+        (now (dst .entry)) at (bytesOf (now (src .entry)) from) n (now (dst .exit)) r ⌝ }
+{
+    if !has_room(src.len(), from, n) {
         return false;
     }
-    if src.len() < from {
-        return false;
-    }
-    if src.len() - from < n {
+    if !has_room(dst.len(), at, n) {
         return false;
     }
     let mut k: usize = 0;
@@ -50,25 +61,58 @@ pub(crate) fn copy(dst: &mut [u8], at: usize, src: &[u8], from: usize, n: usize)
     true
 }
 
-// The low byte of a word.
-pub(crate) fn low_byte(word: u64) -> u8 {
-    (word % 0x100) as u8
-}
-
-// A word as eight bytes from `at` on.
-pub(crate) fn put_word(out: &mut [u8], at: usize, word: u64) {
-    let bytes = utils::word_to_bytes(word);
-    copy(out, at, &bytes, 0, 8);
-}
-
-// The first n bytes become v; answers whether there are so many.
-pub(crate) fn fill(out: &mut [u8], n: usize, v: u8) -> bool {
-    if out.len() < n {
+// The first n bytes become v, where there are so many.
+pub fn fill(out: &mut [u8], n: usize, v: u8) -> bool
+    ensures { λ r. ⌜ Put (room (length (now (out .entry))) 0 n) (now (out .entry)) 0 (λ (k : ℕ). v) n (now (out .exit)) r ⌝ }
+{
+    if !has_room(out.len(), 0, n) {
         return false;
     }
     let mut k: usize = 0;
     while k < n {
         out[k] = v;
+        k += 1;
+    }
+    true
+}
+
+// Words from `at` on, where there is room for them all.
+pub fn put_words(out: &mut [u8], at: usize, words: &[u64]) -> bool
+    ensures { λ r. ⌜ Put (room (length (now (out .entry))) at (8 * length (now (words .entry))))
+        (now (out .entry)) at (byteIn (now (words .entry))) (8 * length (now (words .entry))) (now (out .exit)) r ⌝ }
+{
+    if out.len() / 8 < words.len() {
+        return false;
+    }
+    if !has_room(out.len(), at, 8 * words.len()) {
+        return false;
+    }
+    let mut k: usize = 0;
+    while k < words.len() {
+        let bytes = utils::word_to_bytes(words[k]);
+        copy(out, at + 8 * k, &bytes, 0, 8);
+        k += 1;
+    }
+    true
+}
+
+// The first n words become those that stand in the bytes from `at` on, where there are so many.
+pub fn take_words(words: &mut [u64], n: usize, bytes: &[u8], at: usize) -> bool
+    ensures { λ r. ⌜ Put (room (length (now (words .entry))) 0 n && room (length (now (bytes .entry))) at (8 * n))
+        (now (words .entry)) 0 (λ (k : ℕ). wordAt (now (bytes .entry)) (at + 8 * k)) n (now (words .exit)) r ⌝ }
+{
+    if !has_room(words.len(), 0, n) {
+        return false;
+    }
+    if bytes.len() / 8 < n {
+        return false;
+    }
+    if !has_room(bytes.len(), at, 8 * n) {
+        return false;
+    }
+    let mut k: usize = 0;
+    while k < n {
+        words[k] = word_at(bytes, at + 8 * k);
         k += 1;
     }
     true

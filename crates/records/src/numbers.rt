@@ -6,16 +6,22 @@ use instruction_set::SomeRegister;
 use instruction_set::SomeSize;
 use machine_state::Event;
 ghost use mathlib.Core.Path.{_≡_};
-ghost use Rattle.records.specs.Numbers.{numberOf, placeAt};
+ghost use Prim.Native.Nat.{_<_};
+ghost use Rattle.instruction_set.specs.Arguments.{numberOf as argumentsNumber};
+ghost use Rattle.mmu.specs.Calls.{numberOf as memoryNumber};
+ghost use Rattle.machine_state.specs.Answers.{numberOf as refusalNumber};
+ghost use Rattle.text.specs.Answers.{numberOf as textNumber};
+ghost use Rattle.records.specs.Means.{placeMeans, flagMeans, someSizeMeans};
+ghost use Rattle.records.specs.Numbers.{numberOf, sizeNumber, eventKind, eventRegister, eventValue};
 
-pub enum SomeFlag {
+pub(crate) enum SomeFlag {
     Absent,
     Present(Flags),
 }
 
 // The place of a register among the 80.
-pub fn register_number(register: Register) -> u64
-    ensures { λ n. ⌜ n ≡ numberOf register ⌝ }
+pub(crate) fn register_number(register: Register) -> u64
+    ensures { λ n. ⌜ (n ≡ numberOf register) × (n < 80) ⌝ }
 {
     match register {
         Register::RAX => 0,
@@ -103,7 +109,7 @@ pub fn register_number(register: Register) -> u64
 
 // The 64-bit registers.
 fn whole_at(n: u64) -> SomeRegister
-    ensures { λ r. ⌜ placeAt n r ≡ n ⌝ }
+    ensures { λ r. ⌜ placeMeans n r ⌝ }
 {
     match n {
         0 => SomeRegister::Present(Register::RAX),
@@ -134,7 +140,7 @@ fn whole_at(n: u64) -> SomeRegister
 
 // The 32-bit registers.
 fn low_32_at(n: u64) -> SomeRegister
-    ensures { λ r. ⌜ placeAt n r ≡ n ⌝ }
+    ensures { λ r. ⌜ placeMeans n r ⌝ }
 {
     match n {
         22 => SomeRegister::Present(Register::EAX),
@@ -159,7 +165,7 @@ fn low_32_at(n: u64) -> SomeRegister
 
 // The 16-bit registers.
 fn low_16_at(n: u64) -> SomeRegister
-    ensures { λ r. ⌜ placeAt n r ≡ n ⌝ }
+    ensures { λ r. ⌜ placeMeans n r ⌝ }
 {
     match n {
         38 => SomeRegister::Present(Register::AX),
@@ -184,7 +190,7 @@ fn low_16_at(n: u64) -> SomeRegister
 
 // The 8-bit registers.
 fn low_8_at(n: u64) -> SomeRegister
-    ensures { λ r. ⌜ placeAt n r ≡ n ⌝ }
+    ensures { λ r. ⌜ placeMeans n r ⌝ }
 {
     match n {
         54 => SomeRegister::Present(Register::AL),
@@ -213,7 +219,7 @@ fn low_8_at(n: u64) -> SomeRegister
 
 // The segments.
 fn segment_at(n: u64) -> SomeRegister
-    ensures { λ r. ⌜ placeAt n r ≡ n ⌝ }
+    ensures { λ r. ⌜ placeMeans n r ⌝ }
 {
     match n {
         74 => SomeRegister::Present(Register::ES),
@@ -227,8 +233,8 @@ fn segment_at(n: u64) -> SomeRegister
 }
 
 // The register at a place among the 80.
-pub fn register_at(n: u64) -> SomeRegister
-    ensures { λ r. ⌜ placeAt n r ≡ n ⌝ }
+pub(crate) fn register_at(n: u64) -> SomeRegister
+    ensures { λ r. ⌜ placeMeans n r ⌝ }
 {
     if n < 22 {
         return whole_at(n);
@@ -245,7 +251,9 @@ pub fn register_at(n: u64) -> SomeRegister
     segment_at(n)
 }
 
-pub fn size_number(size: ArgumentSize) -> u64 {
+pub fn size_number(size: ArgumentSize) -> u64
+    ensures { λ n. ⌜ n ≡ sizeNumber size ⌝ }
+{
     match size {
         ArgumentSize::Bit64 => 0,
         ArgumentSize::Bit32 => 1,
@@ -254,7 +262,9 @@ pub fn size_number(size: ArgumentSize) -> u64 {
     }
 }
 
-pub fn size_at(n: u64) -> SomeSize {
+pub(crate) fn size_at(n: u64) -> SomeSize
+    ensures { λ r. ⌜ someSizeMeans n r ⌝ }
+{
     match n {
         0 => SomeSize::Present(ArgumentSize::Bit64),
         1 => SomeSize::Present(ArgumentSize::Bit32),
@@ -264,7 +274,9 @@ pub fn size_at(n: u64) -> SomeSize {
     }
 }
 
-pub fn flag_at(n: u64) -> SomeFlag {
+pub(crate) fn flag_at(n: u64) -> SomeFlag
+    ensures { λ r. ⌜ flagMeans n r ⌝ }
+{
     match n {
         0 => SomeFlag::Present(Flags::Carry),
         1 => SomeFlag::Present(Flags::Parity),
@@ -276,7 +288,9 @@ pub fn flag_at(n: u64) -> SomeFlag {
     }
 }
 
-fn memory_refusal(why: mmu::Refusal) -> u64 {
+fn memory_refusal(why: mmu::Refusal) -> u64
+    ensures { λ n. ⌜ n ≡ memoryNumber why ⌝ }
+{
     match why {
         mmu::Refusal::BadStore => 4,
         mmu::Refusal::TooLong => 5,
@@ -284,7 +298,9 @@ fn memory_refusal(why: mmu::Refusal) -> u64 {
     }
 }
 
-pub(crate) fn refusal(why: machine_state::Refusal) -> u64 {
+pub fn refusal(why: machine_state::Refusal) -> u64
+    ensures { λ n. ⌜ n ≡ refusalNumber why ⌝ }
+{
     match why {
         machine_state::Refusal::NotAnAddress => 1,
         machine_state::Refusal::IntoImmediate => 2,
@@ -293,7 +309,9 @@ pub(crate) fn refusal(why: machine_state::Refusal) -> u64 {
     }
 }
 
-pub(crate) fn arguments_refusal(why: instruction_set::Refusal) -> u64 {
+pub fn arguments_refusal(why: instruction_set::Refusal) -> u64
+    ensures { λ n. ⌜ n ≡ argumentsNumber why ⌝ }
+{
     match why {
         instruction_set::Refusal::NoSize => 8,
         instruction_set::Refusal::NoFirst => 9,
@@ -302,8 +320,20 @@ pub(crate) fn arguments_refusal(why: instruction_set::Refusal) -> u64 {
     }
 }
 
+pub fn text_refusal(why: text::Refusal) -> u64
+    ensures { λ n. ⌜ n ≡ textNumber why ⌝ }
+{
+    match why {
+        text::Refusal::NoScale => 3,
+        text::Refusal::TooLong => 7,
+        text::Refusal::Arguments(deeper) => arguments_refusal(deeper),
+    }
+}
+
 // 0 no event, 1 a control register written, 2 a cell of the screen.
-pub(crate) fn event_kind(event: Event) -> u64 {
+pub(crate) fn event_kind(event: Event) -> u64
+    ensures { λ n. ⌜ n ≡ eventKind event ⌝ }
+{
     match event {
         Event::Quiet => 0,
         Event::Control { .. } => 1,
@@ -311,14 +341,19 @@ pub(crate) fn event_kind(event: Event) -> u64 {
     }
 }
 
-pub(crate) fn event_register(event: Event) -> u64 {
-    if let Event::Control { register, .. } = event {
-        return register_number(register);
+pub(crate) fn event_register(event: Event) -> u64
+    ensures { λ n. ⌜ n ≡ eventRegister event ⌝ }
+{
+    match event {
+        Event::Quiet => 0,
+        Event::Control { register, .. } => register_number(register),
+        Event::Video { .. } => 0,
     }
-    0
 }
 
-pub(crate) fn event_value(event: Event) -> u64 {
+pub(crate) fn event_value(event: Event) -> u64
+    ensures { λ n. ⌜ n ≡ eventValue event ⌝ }
+{
     match event {
         Event::Quiet => 0,
         Event::Control { value, .. } => value,

@@ -22,7 +22,7 @@ returns-2 : tie.Need-returns-2
 returns-2 c = search needs
 
 slice-aggregate-write-all-2 : tie.Need-slice-aggregate-write-all-2
-slice-aggregate-write-all-2 c = sym (length-take-le (c .before .before .before .before .before .before .before .args .reply .lent) (c .before .before .before .before .before .before .before .args .block .now) (omega arith))
+slice-aggregate-write-all-2 c = sym (length-take-le (c .before .before .before .before .before .before .before .args .reply .given) (c .before .before .before .before .before .before .before .args .block .now) (omega arith))
 
 write-all-requires-2 : tie.Need-write-all-requires-2
 write-all-requires-2 c κs = search needs

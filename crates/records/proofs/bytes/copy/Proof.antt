@@ -1,64 +1,45 @@
--- `records::bytes::copy` is safe and ends: the loop keeps the length of what it writes, and both runs lie within their slices. Assumes nothing.
+-- `copy` gives `Put`: one place more with each turn. Assumes nothing.
+use mathlib.Core.Path.{_≡_, refl, ap, _∙_}
+use Prim.Native.Nat.{ℕ, _+_, _≤_, _-_}
+use native.Mathlib.Omega.{arith}
 use borrow.Author.Needs.{needs}
-use lib.ListN.{length}
-use mathlib.Core.Path.{_≡_}
-use Prim.Native.Nat.{_-_}
+use lib.ListN.{length, length-set}
+use Rattle.mmu.specs.Store.{filled}
+use Rattle.mmu.proofs.Fill.{filled-more}
+use Rattle.records.specs.Words.{bytesOf}
+use Rattle.records.proofs.Runs.{room-yes, has, lacks, put-none, put-done, both, first-fails, second-fails}
 use Rattle.records.proofs.bytes.copy.Statement.{statement}
 use Rattle.records.proofs.bytes.copy.Tie as tie
 
 abbrev Inv-loop : tie.InvT-loop
-Inv-loop dst₀ at src from n k₀ dst k = (length dst ≡ length dst₀)
+Inv-loop dst₀ at src from n k₀ dst k =
+    (k ≤ n) × (from + n ≤ length src) × (at + n ≤ length dst₀) × (length dst ≡ length dst₀) × (dst ≡ filled dst₀ at (bytesOf src from) k)
 
 abbrev μ-loop : tie.MeasureT-loop
 μ-loop dst₀ at src from n k₀ dst k = n - k
 
 returns : tie.Need-returns Inv-loop μ-loop
-returns c = search needs
-
-sub-if2 : tie.Need-sub-if2 Inv-loop μ-loop
-sub-if2 c = search needs
+returns c = put-none (first-fails _ (lacks _ _ _ _ (c .before .has-room .ensures) (c .if1 .taken)))
 
 returns-2 : tie.Need-returns-2 Inv-loop μ-loop
-returns-2 c = search needs
-
-returns-3 : tie.Need-returns-3 Inv-loop μ-loop
-returns-3 c = search needs
-
-sub-if4 : tie.Need-sub-if4 Inv-loop μ-loop
-sub-if4 c = search needs
-
-returns-4 : tie.Need-returns-4 Inv-loop μ-loop
-returns-4 c = search needs
+returns-2 c = put-none (second-fails (room-yes _ _ _ (has _ _ _ _ (c .before .before .before .has-room .ensures) (c .before .before .if1 .left))) (lacks _ _ _ _ (c .before .has-room2 .ensures) (c .if2 .taken)))
 
 loop-holds : tie.Need-loop-holds Inv-loop μ-loop
-loop-holds c = search needs
-
-add-dst : tie.Need-add-dst Inv-loop μ-loop
-add-dst c = search needs
-
-shared-slice-read-dst : tie.Need-shared-slice-read-dst Inv-loop μ-loop
-shared-slice-read-dst c = search needs
-
-add-dst-2 : tie.Need-add-dst-2 Inv-loop μ-loop
-add-dst-2 c = search needs
-
-slice-write-dst : tie.Need-slice-write-dst Inv-loop μ-loop
-slice-write-dst c = search needs
-
-add-k : tie.Need-add-k Inv-loop μ-loop
-add-k c = search needs
-
-loop-less : tie.Need-loop-less Inv-loop μ-loop
-loop-less c = search needs
+unfolding filled
+loop-holds c = (omega arith, has _ _ _ _ (c .before .before .before .has-room .ensures) (c .before .before .if1 .left), has _ _ _ _ (c .before .has-room2 .ensures) (c .if2 .left), refl, refl)
 
 loop-again : tie.Need-loop-again Inv-loop μ-loop
-loop-again c = search needs
+loop-again c =
+    let a = c .before .before .before .before .before .before .before .before .before .args in
+    let m = c .before .before .loop in
+    (omega arith, m .inv .1, m .inv .2, rw length-set (m .inv .3), rw (m .inv .4) (filled-more (a .dst .now) (a .at) (bytesOf (a .src .now) (a .from)) (m .k)))
 
-same-length : tie.Need-same-length Inv-loop μ-loop
-same-length c = search needs
-
-returns-5 : tie.Need-returns-5 Inv-loop μ-loop
-returns-5 c = search needs
+returns-3 : tie.Need-returns-3 Inv-loop μ-loop
+returns-3 c =
+    let a = c .before .before .before .before .before .before .before .before .args in
+    let m = c .before .loop in
+    let e : m .k ≡ a .n = omega arith in
+    put-done (both (room-yes (length (a .src .now)) (a .from) (a .n) (m .inv .1)) (room-yes (length (a .dst .now)) (a .at) (a .n) (m .inv .2))) (m .inv .4 ∙ ap (λ (j : ℕ). filled (a .dst .now) (a .at) (bytesOf (a .src .now) (a .from)) j) e)
 
 pub copy-spec : {M : Type 1} → statement M
 copy-spec =
@@ -66,19 +47,17 @@ copy-spec =
     (tie.spec
     Inv-loop
     μ-loop
+    (λ c κs. search needs)
     returns
-    sub-if2
+    (λ c κs. search needs)
     returns-2
-    returns-3
-    sub-if4
-    returns-4
     loop-holds
-    add-dst
-    shared-slice-read-dst
-    add-dst-2
-    slice-write-dst
-    add-k
-    loop-less
+    (λ c. search needs)
+    (λ c. search needs)
+    (λ c. search needs)
+    (λ c. search needs)
+    (λ c. search needs)
+    (λ c. search needs)
     loop-again
-    same-length
-    returns-5)
+    (λ c. search needs)
+    returns-3)

@@ -1,40 +1,38 @@
--- `records::bytes::fill` is safe and ends: the loop keeps the length of what it writes. Assumes nothing.
+-- `fill` gives `Put`: one place more with each turn. Assumes nothing.
+use mathlib.Core.Path.{_≡_, refl, ap, _∙_}
+use Prim.Native.Nat.{ℕ, _≤_, _-_}
+use native.Mathlib.Nat.{zero-add}
+use native.Mathlib.Omega.{arith}
 use borrow.Author.Needs.{needs}
-use lib.ListN.{length}
-use mathlib.Core.Path.{_≡_}
-use Prim.Native.Nat.{_-_}
+use lib.ListN.{length, length-set}
+use Rattle.mmu.specs.Store.{filled}
+use Rattle.mmu.proofs.Fill.{filled-more}
+use Rattle.records.proofs.Runs.{room-yes, has, lacks, put-none, put-done}
 use Rattle.records.proofs.bytes.fill.Statement.{statement}
 use Rattle.records.proofs.bytes.fill.Tie as tie
 
 abbrev Inv-loop : tie.InvT-loop
-Inv-loop out₀ n v k₀ out k = (length out ≡ length out₀)
+Inv-loop out₀ n v k₀ out k = (k ≤ n) × (n ≤ length out₀) × (length out ≡ length out₀) × (out ≡ filled out₀ 0 (λ (j : ℕ). v) k)
 
 abbrev μ-loop : tie.MeasureT-loop
 μ-loop out₀ n v k₀ out k = n - k
 
-returns : tie.Need-returns Inv-loop μ-loop
-returns c = search needs
-
 loop-holds : tie.Need-loop-holds Inv-loop μ-loop
-loop-holds c = search needs
-
-slice-write-out : tie.Need-slice-write-out Inv-loop μ-loop
-slice-write-out c = search needs
-
-add-k : tie.Need-add-k Inv-loop μ-loop
-add-k c = search needs
-
-loop-less : tie.Need-loop-less Inv-loop μ-loop
-loop-less c = search needs
+unfolding filled
+loop-holds c = let h = has _ _ _ _ (c .before .has-room .ensures) (c .if1 .left) in (omega arith, omega (arith, h), refl, refl)
 
 loop-again : tie.Need-loop-again Inv-loop μ-loop
-loop-again c = search needs
-
-same-length : tie.Need-same-length Inv-loop μ-loop
-same-length c = search needs
+loop-again c =
+    let a = c .before .before .before .before .before .args in
+    let m = c .before .loop in
+    (omega arith, m .inv .1, rw length-set (m .inv .2), rw (m .inv .3) (rw (zero-add (m .k)) at (filled-more (a .out .now) 0 (λ (j : ℕ). a .v) (m .k))))
 
 returns-2 : tie.Need-returns-2 Inv-loop μ-loop
-returns-2 c = search needs
+returns-2 c =
+    let a = c .before .before .before .before .before .args in
+    let m = c .before .loop in
+    let e : m .k ≡ a .n = omega arith in
+    put-done (room-yes (length (a .out .now)) 0 (a .n) (omega (arith, m .inv .1))) (m .inv .3 ∙ ap (λ (j : ℕ). filled (a .out .now) 0 (λ (i : ℕ). a .v) j) e)
 
 pub fill-spec : {M : Type 1} → statement M
 fill-spec =
@@ -42,11 +40,12 @@ fill-spec =
     (tie.spec
     Inv-loop
     μ-loop
-    returns
+    (λ c κs. search needs)
+    (λ c. put-none (lacks _ _ _ _ (c .before .has-room .ensures) (c .if1 .taken)))
     loop-holds
-    slice-write-out
-    add-k
-    loop-less
+    (λ c. search needs)
+    (λ c. search needs)
+    (λ c. search needs)
     loop-again
-    same-length
+    (λ c. search needs)
     returns-2)

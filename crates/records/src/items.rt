@@ -1,0 +1,602 @@
+// From words to operands, arguments records, events and calls. A number that names nothing makes the record malformed.
+use super::Access;
+use super::Header;
+use super::OperandWords;
+use super::Show;
+use super::Told;
+use super::numbers::SomeFlag;
+use super::numbers::flag_at;
+use super::numbers::register_at;
+use super::numbers::size_at;
+use calls::Call;
+use instruction_set::InstructionArgument;
+use instruction_set::InstructionArguments;
+use instruction_set::InstructionArgumentsBuilder;
+use instruction_set::SomeArgument;
+use instruction_set::SomeOpcode;
+use instruction_set::SomeRegister;
+use instruction_set::SomeScale;
+use instruction_set::SomeSize;
+use machine_state::Event;
+ghost use mathlib.Core.Path.{_≡_};
+ghost use Prim.Native.Nat.{_≤_};
+ghost use Rattle.records.specs.Built.{argumentsOf, firstGiven, secondGiven, opcodeGiven, sizeGiven};
+ghost use Rattle.records.specs.Means.{partMeans, factorMeans, farMeans, explicitMeans, codeMeans, givenMeans, presentMeans, decodedMeans, builtMeans, occurredMeans, accessMeans, showMeans, toldMeans};
+
+// A base or an index of a record, or a word that names none.
+pub(crate) enum Part {
+    Malformed,
+    Is(SomeRegister),
+}
+
+pub(crate) enum Factor {
+    Malformed,
+    Is(SomeScale),
+}
+
+pub(crate) enum Far {
+    Malformed,
+    By(i32),
+}
+
+pub(crate) enum Explicit {
+    Malformed,
+    Is(SomeSize),
+}
+
+pub(crate) enum Opcode {
+    Malformed,
+    Is(SomeOpcode),
+}
+
+pub(crate) enum Operand {
+    Malformed,
+    Is(SomeArgument),
+}
+
+pub enum SomeCall {
+    Malformed,
+    Is(Call),
+}
+
+pub(crate) enum SomeArguments {
+    Malformed,
+    Is(InstructionArguments),
+}
+
+pub(crate) enum SomeEvent {
+    Malformed,
+    Is(Event),
+}
+
+// Absent at 0, else the register at the number less 1.
+fn part_at(n: u64) -> Part
+    ensures { λ r. ⌜ partMeans n r ⌝ }
+{
+    if n == 0 {
+        return Part::Is(SomeRegister::Absent);
+    }
+    let found = register_at(n - 1);
+    match found {
+        SomeRegister::Absent => Part::Malformed,
+        SomeRegister::Present(register) => Part::Is(SomeRegister::Present(register)),
+    }
+}
+
+fn scale_at(n: u64) -> Factor
+    ensures { λ r. ⌜ factorMeans n r ⌝ }
+{
+    if n == 0 {
+        return Factor::Is(SomeScale::Absent);
+    }
+    if 256 < n {
+        return Factor::Malformed;
+    }
+    Factor::Is(SomeScale::Present((n - 1) as u8))
+}
+
+// The 64 bits are those of a number of 32 with its sign.
+fn displacement(word: u64) -> Far
+    ensures { λ r. ⌜ farMeans word r ⌝ }
+{
+    let value = utils::signed(word);
+    if value < -0x8000_0000 {
+        return Far::Malformed;
+    }
+    if 0x7FFF_FFFF < value {
+        return Far::Malformed;
+    }
+    Far::By(value as i32)
+}
+
+fn register_operand(words: OperandWords) -> Operand
+    requires { ⌜ words .kind ≡ 2 ⌝ }
+    ensures { λ r. ⌜ givenMeans words r ⌝ }
+{
+    let found = part_at(words.base);
+    let Part::Is(part) = found else {
+        return Operand::Malformed;
+    };
+    match part {
+        SomeRegister::Absent => Operand::Malformed,
+        SomeRegister::Present(register) => {
+            Operand::Is(SomeArgument::Present(InstructionArgument::Register { register }))
+        }
+    }
+}
+
+fn address_operand(words: OperandWords) -> Operand
+    requires { ⌜ words .kind ≡ 3 ⌝ }
+    ensures { λ r. ⌜ givenMeans words r ⌝ }
+{
+    let first = part_at(words.base);
+    let Part::Is(base) = first else {
+        return Operand::Malformed;
+    };
+    let second = part_at(words.index);
+    let Part::Is(index) = second else {
+        return Operand::Malformed;
+    };
+    let factor = scale_at(words.scale);
+    let Factor::Is(scale) = factor else {
+        return Operand::Malformed;
+    };
+    let far = displacement(words.value);
+    let Far::By(displacement) = far else {
+        return Operand::Malformed;
+    };
+    Operand::Is(SomeArgument::Present(InstructionArgument::EffectiveAddress {
+        base,
+        index,
+        scale,
+        displacement,
+    }))
+}
+
+fn decode_operand(words: OperandWords) -> Operand
+    ensures { λ r. ⌜ givenMeans words r ⌝ }
+{
+    let kind = words.kind;
+    match kind {
+        0 => Operand::Is(SomeArgument::Absent),
+        1 => Operand::Is(SomeArgument::Present(InstructionArgument::Immediate {
+            immediate: words.value,
+        })),
+        2 => register_operand(words),
+        3 => address_operand(words),
+        _ => Operand::Malformed,
+    }
+}
+
+// The parts of an arguments record that a header gives. Size 0 to 3 or 4 for none; the opcode plus 1, or 0 for none.
+fn explicit_at(n: u64) -> Explicit
+    ensures { λ r. ⌜ explicitMeans n r ⌝ }
+{
+    if n == 4 {
+        return Explicit::Is(SomeSize::Absent);
+    }
+    let size = size_at(n);
+    match size {
+        SomeSize::Absent => Explicit::Malformed,
+        SomeSize::Present(explicit) => Explicit::Is(SomeSize::Present(explicit)),
+    }
+}
+
+fn opcode_at(n: u64) -> Opcode
+    ensures { λ r. ⌜ codeMeans n r ⌝ }
+{
+    if n == 0 {
+        return Opcode::Is(SomeOpcode::Absent);
+    }
+    if 256 < n {
+        return Opcode::Malformed;
+    }
+    Opcode::Is(SomeOpcode::Present((n - 1) as u8))
+}
+
+// Built by the Rust's builder, part by part.
+fn build(
+    first: SomeArgument,
+    second: SomeArgument,
+    opcode: SomeOpcode,
+    size: SomeSize,
+    equal: bool,
+    not_equal: bool,
+) -> InstructionArguments
+    ensures { λ r. ⌜ r ≡ argumentsOf first second opcode size equal «not_equal» ⌝ }
+{
+    let one = with_first(InstructionArgumentsBuilder::new(), first);
+    let two = with_second(one, second);
+    let sized = with_size(with_opcode(two, opcode), size);
+    sized.repeat(equal, not_equal).finalize()
+}
+
+fn with_first(
+    builder: InstructionArgumentsBuilder,
+    first: SomeArgument,
+) -> InstructionArgumentsBuilder
+    ensures { λ r. ⌜ r ≡ firstGiven builder first ⌝ }
+{
+    match first {
+        SomeArgument::Absent => builder,
+        SomeArgument::Present(argument) => builder.first_argument(argument),
+    }
+}
+
+fn with_second(
+    builder: InstructionArgumentsBuilder,
+    second: SomeArgument,
+) -> InstructionArgumentsBuilder
+    ensures { λ r. ⌜ r ≡ secondGiven builder second ⌝ }
+{
+    match second {
+        SomeArgument::Absent => builder,
+        SomeArgument::Present(argument) => builder.second_argument(argument),
+    }
+}
+
+fn with_opcode(
+    builder: InstructionArgumentsBuilder,
+    opcode: SomeOpcode,
+) -> InstructionArgumentsBuilder
+    ensures { λ r. ⌜ r ≡ opcodeGiven builder opcode ⌝ }
+{
+    match opcode {
+        SomeOpcode::Absent => builder,
+        SomeOpcode::Present(number) => builder.opcode(number),
+    }
+}
+
+fn with_size(builder: InstructionArgumentsBuilder, size: SomeSize) -> InstructionArgumentsBuilder
+    ensures { λ r. ⌜ r ≡ sizeGiven builder size ⌝ }
+{
+    match size {
+        SomeSize::Absent => builder,
+        SomeSize::Present(explicit) => builder.explicit_size(explicit),
+    }
+}
+
+// The arguments record of a header, with the words of its two repeats: 0 or 1.
+fn decode_arguments(header: Header, equal: u64, not_equal: u64) -> SomeArguments
+    ensures { λ r. ⌜ builtMeans header equal «not_equal» r ⌝ }
+{
+    if 1 < equal {
+        return SomeArguments::Malformed;
+    }
+    if 1 < not_equal {
+        return SomeArguments::Malformed;
+    }
+    let one = decode_operand(header.first);
+    let Operand::Is(first) = one else {
+        return SomeArguments::Malformed;
+    };
+    let two = decode_operand(header.second);
+    let Operand::Is(second) = two else {
+        return SomeArguments::Malformed;
+    };
+    let code = opcode_at(header.a);
+    let Opcode::Is(opcode) = code else {
+        return SomeArguments::Malformed;
+    };
+    let explicit = explicit_at(header.size);
+    let Explicit::Is(size) = explicit else {
+        return SomeArguments::Malformed;
+    };
+    SomeArguments::Is(build(first, second, opcode, size, equal == 1, not_equal == 1))
+}
+
+// The first operand, which must be given.
+fn given_operand(words: OperandWords) -> SomeArgument
+    ensures { λ r. ⌜ presentMeans words r ⌝ }
+{
+    let operand = decode_operand(words);
+    match operand {
+        Operand::Malformed => SomeArgument::Absent,
+        Operand::Is(argument) => argument,
+    }
+}
+
+fn read_operand(header: Header) -> SomeCall
+    requires { ⌜ header .kind ≡ 1 ⌝ }
+    ensures { λ r. ⌜ decodedMeans header r ⌝ }
+{
+    let operand = given_operand(header.first);
+    let SomeArgument::Present(argument) = operand else {
+        return SomeCall::Malformed;
+    };
+    let found = size_at(header.size);
+    let SomeSize::Present(size) = found else {
+        return SomeCall::Malformed;
+    };
+    SomeCall::Is(Call::ReadOperand { argument, size })
+}
+
+fn write_operand(header: Header) -> SomeCall
+    requires { ⌜ header .kind ≡ 2 ⌝ }
+    ensures { λ r. ⌜ decodedMeans header r ⌝ }
+{
+    let operand = given_operand(header.first);
+    let SomeArgument::Present(argument) = operand else {
+        return SomeCall::Malformed;
+    };
+    let found = size_at(header.size);
+    let SomeSize::Present(size) = found else {
+        return SomeCall::Malformed;
+    };
+    SomeCall::Is(Call::WriteOperand {
+        argument,
+        size,
+        value: header.a,
+    })
+}
+
+fn effective_address(header: Header) -> SomeCall
+    requires { ⌜ header .kind ≡ 3 ⌝ }
+    ensures { λ r. ⌜ decodedMeans header r ⌝ }
+{
+    let operand = given_operand(header.first);
+    match operand {
+        SomeArgument::Absent => SomeCall::Malformed,
+        SomeArgument::Present(argument) => SomeCall::Is(Call::EffectiveAddress { argument }),
+    }
+}
+
+fn test_flag(header: Header) -> SomeCall
+    requires { ⌜ header .kind ≡ 8 ⌝ }
+    ensures { λ r. ⌜ decodedMeans header r ⌝ }
+{
+    let found = flag_at(header.a);
+    match found {
+        SomeFlag::Absent => SomeCall::Malformed,
+        SomeFlag::Present(flag) => SomeCall::Is(Call::TestFlag { flag }),
+    }
+}
+
+fn set_flag(header: Header) -> SomeCall
+    requires { ⌜ header .kind ≡ 9 ⌝ }
+    ensures { λ r. ⌜ decodedMeans header r ⌝ }
+{
+    if 1 < header.b {
+        return SomeCall::Malformed;
+    }
+    let found = flag_at(header.a);
+    match found {
+        SomeFlag::Absent => SomeCall::Malformed,
+        SomeFlag::Present(flag) => SomeCall::Is(Call::SetFlag {
+            flag,
+            value: header.b == 1,
+        }),
+    }
+}
+
+fn compute_flags(header: Header) -> SomeCall
+    requires { ⌜ header .kind ≡ 10 ⌝ }
+    ensures { λ r. ⌜ decodedMeans header r ⌝ }
+{
+    let found = size_at(header.size);
+    match found {
+        SomeSize::Absent => SomeCall::Malformed,
+        SomeSize::Present(size) => SomeCall::Is(Call::ComputeFlags {
+            result: header.a,
+            size,
+        }),
+    }
+}
+
+// The tabled call of a header.
+pub fn decode_call(header: Header) -> SomeCall
+    ensures { λ r. ⌜ decodedMeans header r ⌝ }
+{
+    let kind = header.kind;
+    match kind {
+        1 => read_operand(header),
+        2 => write_operand(header),
+        3 => effective_address(header),
+        4 => SomeCall::Is(Call::Push),
+        5 => SomeCall::Is(Call::Pop),
+        6 => SomeCall::Is(Call::ReadMemory { address: header.a }),
+        7 => SomeCall::Is(Call::WriteMemory { address: header.a }),
+        8 => test_flag(header),
+        9 => set_flag(header),
+        10 => compute_flags(header),
+        _ => SomeCall::Malformed,
+    }
+}
+
+fn control_event(words: OperandWords) -> SomeEvent
+    requires { ⌜ words .kind ≡ 1 ⌝ }
+    ensures { λ r. ⌜ occurredMeans words r ⌝ }
+{
+    let found = part_at(words.base);
+    let Part::Is(part) = found else {
+        return SomeEvent::Malformed;
+    };
+    match part {
+        SomeRegister::Absent => SomeEvent::Malformed,
+        SomeRegister::Present(register) => SomeEvent::Is(Event::Control {
+            register,
+            value: words.value,
+        }),
+    }
+}
+
+fn video_event(words: OperandWords) -> SomeEvent
+    requires { ⌜ words .kind ≡ 2 ⌝ }
+    ensures { λ r. ⌜ occurredMeans words r ⌝ }
+{
+    if 255 < words.value {
+        return SomeEvent::Malformed;
+    }
+    SomeEvent::Is(Event::Video {
+        byte: words.value as u8,
+    })
+}
+
+fn decode_event(words: OperandWords) -> SomeEvent
+    ensures { λ r. ⌜ occurredMeans words r ⌝ }
+{
+    let kind = words.kind;
+    match kind {
+        0 => SomeEvent::Is(Event::Quiet),
+        1 => control_event(words),
+        2 => video_event(words),
+        _ => SomeEvent::Malformed,
+    }
+}
+
+fn size(header: Header) -> Access
+    requires { ⌜ header .kind ≡ 16 ⌝ }
+    ensures { λ r. ⌜ accessMeans header r ⌝ }
+{
+    let built = decode_arguments(header, header.b, header.c);
+    match built {
+        SomeArguments::Malformed => Access::Malformed,
+        SomeArguments::Is(arguments) => Access::Size { arguments },
+    }
+}
+
+fn one_argument(header: Header) -> Access
+    requires { ⌜ header .kind ≡ 17 ⌝ }
+    ensures { λ r. ⌜ accessMeans header r ⌝ }
+{
+    let built = decode_arguments(header, header.b, header.c);
+    match built {
+        SomeArguments::Malformed => Access::Malformed,
+        SomeArguments::Is(arguments) => Access::OneArgument { arguments },
+    }
+}
+
+fn two_arguments(header: Header) -> Access
+    requires { ⌜ header .kind ≡ 18 ⌝ }
+    ensures { λ r. ⌜ accessMeans header r ⌝ }
+{
+    let built = decode_arguments(header, header.b, header.c);
+    match built {
+        SomeArguments::Malformed => Access::Malformed,
+        SomeArguments::Is(arguments) => Access::TwoArguments { arguments },
+    }
+}
+
+// The repeats do not show in the text: b and c are the buffer.
+fn arguments_text(header: Header) -> Told
+    requires { ⌜ header .kind ≡ 33 ⌝ }
+    ensures { λ r. ⌜ toldMeans header r ⌝ }
+{
+    let built = decode_arguments(header, 0, 0);
+    match built {
+        SomeArguments::Malformed => Told::Malformed,
+        SomeArguments::Is(arguments) => Told::Arguments { arguments },
+    }
+}
+
+fn operand_text(header: Header) -> Told
+    requires { ⌜ header .kind ≡ 32 ⌝ }
+    ensures { λ r. ⌜ toldMeans header r ⌝ }
+{
+    let operand = given_operand(header.first);
+    let SomeArgument::Present(argument) = operand else {
+        return Told::Malformed;
+    };
+    let found = size_at(header.size);
+    let SomeSize::Present(size) = found else {
+        return Told::Malformed;
+    };
+    Told::Operand { argument, size }
+}
+
+fn plain_text(header: Header) -> Told
+    requires { ⌜ header .kind ≡ 36 ⌝ }
+    ensures { λ r. ⌜ toldMeans header r ⌝ }
+{
+    let operand = given_operand(header.first);
+    match operand {
+        SomeArgument::Absent => Told::Malformed,
+        SomeArgument::Present(argument) => Told::Plain { argument },
+    }
+}
+
+fn register_text(header: Header) -> Told
+    requires { ⌜ header .kind ≡ 37 ⌝ }
+    ensures { λ r. ⌜ toldMeans header r ⌝ }
+{
+    let operand = given_operand(header.first);
+    let SomeArgument::Present(argument) = operand else {
+        return Told::Malformed;
+    };
+    let InstructionArgument::Register { register } = argument else {
+        return Told::Malformed;
+    };
+    Told::Register { register }
+}
+
+fn event_line(header: Header) -> Told
+    requires { ⌜ header .kind ≡ 35 ⌝ }
+    ensures { λ r. ⌜ toldMeans header r ⌝ }
+{
+    let found = decode_event(header.first);
+    match found {
+        SomeEvent::Malformed => Told::Malformed,
+        SomeEvent::Is(event) => Told::Event { event },
+    }
+}
+
+fn view(header: Header) -> Show
+    requires { ⌜ header .kind ≡ 20 ⌝ }
+    ensures { λ r. ⌜ showMeans header r ⌝ }
+{
+    let lent = header.first;
+    Show::View {
+        page: header.a,
+        from: header.b,
+        count: header.c,
+        zeros: lent.base,
+        last: lent.value,
+    }
+}
+
+// Whose text a record asks for, kinds 32 to 37.
+pub fn decode_told(header: Header) -> Told
+    ensures { λ r. ⌜ toldMeans header r ⌝ }
+{
+    let kind = header.kind;
+    match kind {
+        32 => operand_text(header),
+        33 => arguments_text(header),
+        34 => Told::State,
+        35 => event_line(header),
+        36 => plain_text(header),
+        37 => register_text(header),
+        _ => Told::Malformed,
+    }
+}
+
+// What is asked of an arguments record, kinds 16 to 18.
+pub fn decode_access(header: Header) -> Access
+    ensures { λ r. ⌜ accessMeans header r ⌝ }
+{
+    let kind = header.kind;
+    match kind {
+        16 => size(header),
+        17 => one_argument(header),
+        18 => two_arguments(header),
+        _ => Access::Malformed,
+    }
+}
+
+// What is shown or loaded, kinds 20 to 28.
+pub fn decode_show(header: Header) -> Show
+    ensures { λ r. ⌜ showMeans header r ⌝ }
+{
+    let kind = header.kind;
+    match kind {
+        20 => view(header),
+        25 => Show::Load { at: header.a },
+        26 => Show::Machine,
+        27 => Show::Directory,
+        28 => Show::Bytes {
+            from: header.a,
+            count: header.b,
+        },
+        _ => Show::Malformed,
+    }
+}

@@ -1,0 +1,192 @@
+"""What refusals.py, texts.py and report.py share: records, operands, the registers of 01's table, and a small model of the machine and its store.
+It is written from 01 and shares nothing with the Rattle code or with the Rust."""
+import struct
+
+READ, WRITE, ADDRESS, PUSH, POP, READ_MEMORY, WRITE_MEMORY, TEST_FLAG, SET_FLAG, COMPUTE, READ_BYTE = range(1, 12)
+VIEW, RESET, LOAD, SHOW_MACHINE, SHOW_DIRECTORY, SHOW_BYTES = 20, 24, 25, 26, 27, 28
+TOP = 1 << 64
+RAX, RSP, RBP, CR3 = 0, 4, 5, 19
+NO_OPERAND = (0, 0, 0, 0, 0)
+PARENTS = "rax rbx rcx rdx rsp rbp rsi rdi r8 r9 r10 r11 r12 r13 r14 r15 rip cr0 cr2 cr3 cr4 cr8".split()
+
+
+def named(names, parents, suffix, first, read, rewritten):
+    """Rows of 01's table: name, parent, first lane, lanes read, lanes rewritten. With a suffix, r8 to r15 have a name of the kind too."""
+    upper = PARENTS[8:16] if suffix else []
+    rows = zip(names.split() + [p + suffix for p in upper], parents.split() + upper)
+    return [(name, PARENTS.index(parent), first, read, rewritten) for name, parent in rows]
+
+
+# in the Rust's order of names, which are numbered from 0
+REGISTERS = (
+    named(" ".join(PARENTS), " ".join(PARENTS), "", 0, 8, 8)
+    + named("eax ebx ecx edx esp ebp esi edi", "rax rbx rcx rdx rsp rbp rsi rdi", "d", 0, 4, 8)
+    + named("ax cx dx bx sp bp si di", "rax rcx rdx rbx rsp rbp rsi rdi", "w", 0, 2, 2)
+    + named("al cl dl bl", "rax rcx rdx rbx", "", 0, 1, 1)
+    + named("ah ch dh bh", "rax rcx rdx rbx", "", 1, 1, 1)
+    + named("spl bpl sil dil", "rsp rbp rsi rdi", "b", 0, 1, 1)
+    + [(name, 0, 0, 0, 0) for name in "es cs ss ds fs gs".split()]
+)
+NUMBERS = {row[0]: number for number, row in enumerate(REGISTERS)}
+
+
+def register(n):
+    return (2, n + 1, 0, 0, 0)
+
+
+def immediate(v):
+    return (1, 0, 0, 0, v)
+
+
+def at(displacement, base=None, index=None, scale=None):
+    plus = lambda x: 0 if x is None else x + 1
+    return (3, plus(base), plus(index), plus(scale), displacement % TOP)
+
+
+def signed(v, bits):
+    v %= 1 << bits
+    return v - (1 << bits) if v >> bits - 1 else v
+
+
+class Refused(Exception):
+    pass
+
+
+class Model:
+    """The machine's 25 words (CR3 stays 0: no walk here), and the lent store: directory, bytes, slots in use."""
+
+    def __init__(self, words, directory, length, used, fill):
+        self.words, self.directory, self.used = list(words), list(directory), used
+        self.bytes = bytearray([fill]) * length
+
+    def check(self, n):
+        slots = len(self.directory)
+        if slots > 65536 or self.used > slots or len(self.bytes) != 4096 * slots:
+            raise Refused(4)
+        if n > 4096:
+            raise Refused(5)
+
+    def slot(self, page):
+        in_use = self.directory[: self.used]
+        return in_use.index(page) if page in in_use else None
+
+    def byte(self, p):
+        i = self.slot(p // 4096)
+        return 0 if i is None else self.bytes[4096 * i + p % 4096]
+
+    def read(self, p, n):
+        self.check(n)
+        return bytes(self.byte(p + k) for k in range(n))
+
+    def write(self, p, data):
+        """The event, or a refusal."""
+        self.check(len(data))
+        if not data:
+            return None
+        absent = [q for q in range(p // 4096, (p + len(data) - 1) // 4096 + 1) if self.slot(q) is None]
+        if len(absent) > len(self.directory) - self.used:
+            raise Refused(6)
+        for q in absent:
+            self.directory[self.used] = q
+            self.bytes[4096 * self.used : 4096 * self.used + 4096] = bytes(4096)
+            self.used += 1
+        for k, b in enumerate(data):
+            self.bytes[4096 * self.slot((p + k) // 4096) + (p + k) % 4096] = b
+        return data[0] if 0xB8000 <= p <= 0xB8FA0 and p % 2 == 0 else None
+
+    def address(self, op):
+        if op[0] != 3:
+            raise Refused(1)
+        total = signed(op[4], 64) + (self.words[op[1] - 1] if op[1] else 0)
+        if op[2]:
+            if not op[3]:
+                raise Refused(3)
+            total += self.words[op[2] - 1] * (op[3] - 1)
+        return total % TOP
+
+    def value(self, op, size):
+        if op[0] == 1:
+            return op[4]
+        if op[0] == 2:
+            return self.words[op[1] - 1]
+        n = 8 >> size
+        v = int.from_bytes(self.read(self.address(op), n), "little")
+        return (v if size == 3 else signed(v, 8 * n)) % TOP
+
+
+class Stream:
+    def __init__(self, calls, answers):
+        self.calls, self.answers, self.counted = calls, answers, 0
+
+    def put(self, header, block, answer, lent, used):
+        header = list(header) + [0] * (16 - len(header))
+        self.calls.write(struct.pack("<16Q", *header) + block)
+        self.answers.write(struct.pack("<8Q", *answer, used, len(lent)) + lent)
+
+    def reset(self, words, directory, length, used, fill):
+        self.m = Model(words, directory, length, used, fill)
+        block = struct.pack("<%dQ" % (25 + len(directory)), *words, *directory)
+        self.put([RESET, len(block), used, len(directory), length, fill], block, [0] * 6, b"", used)
+
+    def load(self, where, data):
+        self.m.bytes[where : where + len(data)] = data
+        self.put([LOAD, len(data), 0, where], data, [0] * 6, b"", self.m.used)
+
+    def call(self, kind, size=0, a=0, b=0, c=0, op=NO_OPERAND, block=b""):
+        m, lent = self.m, block
+        shape = value = 0
+        event = [0, 0, 0]
+        refusal = 0
+        if kind == READ_MEMORY:
+            lent = bytes([c]) * b
+        try:
+            if kind == READ:
+                shape, value = 1, m.value(op, size)
+            elif kind == WRITE and op[0] == 1:
+                raise Refused(2)
+            elif kind == WRITE and op[0] == 2:
+                m.words[op[1] - 1] = a
+            elif kind == ADDRESS:
+                shape, value = 1, m.address(op)
+            elif kind == POP:
+                shape, value = 1, int.from_bytes(m.read(m.words[RSP], 8), "little")
+                m.words[RSP] = (m.words[RSP] + 8) % TOP
+            elif kind == READ_MEMORY:
+                lent = m.read(a, b)
+            elif kind == READ_BYTE:
+                shape, value = 1, m.read(a, 1)[0]
+            else:
+                to, data = a, block
+                if kind == WRITE:
+                    to, data = m.address(op), (a % (1 << (64 >> size))).to_bytes(8 >> size, "little")
+                if kind == PUSH:
+                    to = (m.words[RSP] - len(block)) % TOP
+                shown = m.write(to, data)
+                if shown is not None:
+                    event = [2, 0, shown]
+                if kind == PUSH:
+                    m.words[RSP] = to
+        except Refused as why:
+            refusal = why.args[0]
+        self.put([kind, len(block), size, a, b, c, *op], block, [refusal, shape, value, *event], lent, m.used)
+        self.counted += 1
+
+    def view(self, page, start=0, n=8, zeros=4096, last=0):
+        m = self.m
+        slots = len(m.directory)
+        good = len(m.bytes) == 4096 * slots and m.used <= slots and zeros == 4096 and last == 0
+        shown = b""
+        if good:
+            i = m.slot(page)
+            whole = bytes(4096) if i is None else bytes(m.bytes[4096 * i : 4096 * i + 4096])
+            shown = whole[start : start + n]
+        self.put([VIEW, 0, 0, page, start, n, 0, zeros, 0, 0, last], b"", [0 if good else 4, 0, 0, 0, 0, 0], shown, m.used)
+        self.counted += 1
+
+    def show(self):
+        m = self.m
+        self.put([SHOW_MACHINE], b"", [0] * 6, struct.pack("<25Q", *m.words), m.used)
+        self.put([SHOW_DIRECTORY], b"", [0] * 6, struct.pack("<%dQ" % len(m.directory), *m.directory), m.used)
+        for where in range(0, len(m.bytes), 4096):
+            n = min(24, len(m.bytes) - where)
+            self.put([SHOW_BYTES, 0, 0, where, n], b"", [0] * 6, bytes(m.bytes[where : where + n]), m.used)
