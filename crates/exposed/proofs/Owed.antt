@@ -11,7 +11,7 @@ use lib.IntN.{ℤ}
 use lib.ListN.{length, replicate}
 use lib.Pow.{pow-pos}
 use Rattle.utils.specs.Bytes.{toBytes, fromBytes}
-use Rattle.utils.specs.Outcome.{Outcome, gives}
+use Rattle.utils.specs.Outcome.{Outcome, gives, accepted}
 use Rattle.instruction_set.specs.Registers.{row}
 use Rattle.instruction_set.specs.Sizes.{bytesOf}
 use Rattle.instruction_set.specs.declared.ArgumentSize.{ArgumentSize}
@@ -29,7 +29,7 @@ use Rattle.machine_state.specs.Address.{addressOf}
 use Rattle.machine_state.specs.Answers.{word, truth, After}
 use Rattle.machine_state.specs.Flagged.{setFlag, computeFlags}
 use Rattle.machine_state.specs.Machine.{writeReg}
-use Rattle.machine_state.specs.Memory.{rsp as rspOf, cr3 as cr3Of, withRsp, yields, passed, eventShown, readMemory, writeMemory, valued, loaded, storedAt, atAddress, readOperand, writeOperand, moved, below, pushed, popped}
+use Rattle.machine_state.specs.Memory.{rsp as rspOf, cr3 as cr3Of, withRsp, passed, eventShown, readMemory, writeMemory, valued, loaded, storedAt, atAddress, readOperand, writeOperand, moved, below, pushed, popped}
 use Rattle.machine_state.specs.declared.Event.the-variants.{Quiet}
 use Rattle.machine_state.specs.declared.MachineState.{MachineState}
 use Rattle.calls.specs.Step.{step, beside}
@@ -209,8 +209,8 @@ lent-back : {r q : After} (l : List ℕ) → Same r q → Same (beside l r) (bes
 lent-back l h = record { reply = ap (λ (x : Reply). record { outcome = x .outcome; event = x .event; lent = l }) (h .reply); store = h .store }
 
 -- what a push or a pop leaves, apart from the machine, is what its access leaves
-accepted-alike : {r q : After} → Same r q → yields (r .outcome) ≡ yields (q .outcome)
-accepted-alike h = ap (λ (x : Reply). yields (x .outcome)) (h .reply)
+accepted-alike : {r q : After} → Same r q → accepted (r .outcome) ≡ accepted (q .outcome)
+accepted-alike h = ap (λ (x : Reply). accepted (x .outcome)) (h .reply)
 
 moved-alike : {r q : After} (x y : ℕ) → Same r q → Same (moved r x) (moved q y)
 moved-alike x y h = record { reply = h .reply; store = h .store }
@@ -336,13 +336,13 @@ owes (EffectiveAddress (arg.EffectiveAddress b i k d)) =
     }
 owes Push =
     record {
-      changes = stack Push (λ m s l. yields (writeMemory m s (below (rspOf m) (length l)) l .outcome)) (λ m l. below (rspOf m) (length l)) (λ m s l. refl) refl refl refl
+      changes = stack Push (λ m s l. accepted (writeMemory m s (below (rspOf m) (length l)) l .outcome)) (λ m l. below (rspOf m) (length l)) (λ m s l. refl) refl refl refl
           (λ m l. word-lt _) (λ m n s l g k a. let h = push-alike m n s l g k a in (accepted-alike (h .0), h .1));
       replies = reached Push refl (λ m n s l g k a. moved-alike _ _ (push-alike m n s l g k a .0));
     }
 owes Pop =
     record {
-      changes = stack Pop (λ m s l. yields (loaded m s (rspOf m) Bit64 .outcome)) (λ m l. (rspOf m + 8) % 2 ^ 64) (λ m s l. refl) refl refl refl
+      changes = stack Pop (λ m s l. accepted (loaded m s (rspOf m) Bit64 .outcome)) (λ m l. (rspOf m + 8) % 2 ^ 64) (λ m s l. refl) refl refl refl
           (λ m l. word-lt _) (λ m n s l g k a. let h = pop-alike m n s g k a in (accepted-alike (h .0), h .1));
       replies = reached Pop refl (λ m n s l g k a. lent-back l (moved-alike _ _ (pop-alike m n s g k a .0)));
     }

@@ -89,6 +89,7 @@ row R12B = at 12 Low8
 row R13B = at 13 Low8
 row R14B = at 14 Low8
 row R15B = at 15 Low8
+-- a segment has no parent: with no lanes, 0 is never read or rewritten
 row ES = at 0 Nothing
 row CS = at 0 Nothing
 row SS = at 0 Nothing

@@ -1,4 +1,4 @@
--- Sizes of operands and places of flags.
+-- Sizes of operands, and which bit of rflags a flag is.
 use Prim.Native.Nat.{ℕ}
 use Rattle.instruction_set.specs.Registers.{partOf}
 use Rattle.instruction_set.specs.declared.ArgumentSize.{ArgumentSize}

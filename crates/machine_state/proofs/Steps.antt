@@ -11,7 +11,7 @@ use types.Run.{OneOf}
 use lib.Dec.{eqb}
 use lib.ListN.{length, take, drop, replicate}
 use Rattle.utils.specs.Bytes.{toBytes, fromBytes}
-use Rattle.utils.specs.Outcome.{Outcome, gives, refuses}
+use Rattle.utils.specs.Outcome.{Outcome, gives, refuses, accepted}
 use Rattle.utils.proofs.Bytes.{from-padded, take-toBytes}
 use Rattle.instruction_set.specs.Sizes.{bytesOf}
 use Rattle.instruction_set.specs.declared.ArgumentSize.{ArgumentSize}
@@ -27,7 +27,7 @@ use Rattle.mmu.specs.declared.Refusal.the-variants.{BadStore, TooLong, NoRoom}
 use Rattle.mmu.specs.declared.Shown.{Shown}
 use Rattle.machine_state.specs.Address.{addressOf}
 use Rattle.machine_state.specs.Answers.{Value, word, After, left, outcomeOf, numberOf}
-use Rattle.machine_state.specs.Memory.{after, yields, passed, eventShown, readMemory, writeMemory, valued, withValue, loaded, storedAt, atAddress, readOperand, writeOperand, moved, below, cr3}
+use Rattle.machine_state.specs.Memory.{after, passed, eventShown, readMemory, writeMemory, valued, withValue, loaded, storedAt, atAddress, readOperand, writeOperand, moved, below, cr3}
 use Rattle.machine_state.specs.Steps.{answered, finished, fromMemory, isRefused, givenValue, givenRsp}
 use Rattle.machine_state.specs.declared.Answer.{Answer}
 use Rattle.machine_state.specs.declared.Answer.the-variants as answer
@@ -62,14 +62,14 @@ value-outcome (answer.Refused r) v = rw (no-zero r)
 value-after : (r : Answered) (d b l : List ℕ) (v : ℕ) → left (givenValue r v) d b [] ≡ withValue (left r d b l) v
 value-after r d b l v = ap (after (r .machine) (storeOf d b (r .used)) [] (r .event)) (value-outcome (r .answer) v)
 
-yields-answer : (a : Answer) {X : Type 0} (x y : X) → cond (isRefused a) x y ≡ cond (yields (outcomeOf a)) y x
-yields-answer answer.Done x y = refl
-yields-answer (answer.Value v) x y = refl
-yields-answer (answer.Truth b) x y = refl
-yields-answer (answer.Refused r) x y = rw (no-zero r)
+accepted-answer : (a : Answer) {X : Type 0} (x y : X) → cond (isRefused a) x y ≡ cond (accepted (outcomeOf a)) y x
+accepted-answer answer.Done x y = refl
+accepted-answer (answer.Value v) x y = refl
+accepted-answer (answer.Truth b) x y = refl
+accepted-answer (answer.Refused r) x y = rw (no-zero r)
 
 pub rsp-after : (r : Answered) (d b l : List ℕ) (x : ℕ) → left (givenRsp r x) d b l ≡ moved (left r d b l) x
-rsp-after r d b l x = ap (λ (m : MachineState). after m (storeOf d b (r .used)) l (r .event) (outcomeOf (r .answer))) (yields-answer (r .answer) _ _)
+rsp-after r d b l x = ap (λ (m : MachineState). after m (storeOf d b (r .used)) l (r .event) (outcomeOf (r .answer))) (accepted-answer (r .answer) _ _)
 
 -- rsp less a length
 pub below-is : (to x n : ℕ) → to < 2 ^ 64 → n < 2 ^ 64 → (to + n) % 2 ^ 64 ≡ x → to ≡ below x n

@@ -1,11 +1,10 @@
 -- What the calls that reach memory owe, written from 01, "Addresses, pages, walk" and "Refusal numbers", over the definitions of mmu.
-use mathlib.Core.Bool.{Bool, cond}
+use mathlib.Core.Bool.{cond}
 use mathlib.Core.List.{List, [], _∷_, map}
 use Prim.Native.Nat.{ℕ, _+_, _-_, _%_, _^_}
-use lib.Dec.{eqb}
 use lib.ListN.{length, set, replicate}
 use Rattle.utils.specs.Bytes.{toBytes, fromBytes}
-use Rattle.utils.specs.Outcome.{Outcome, gives, refuses}
+use Rattle.utils.specs.Outcome.{Outcome, gives, refuses, accepted}
 use Rattle.instruction_set.specs.Sizes.{bytesOf}
 use Rattle.instruction_set.specs.declared.ArgumentSize.{ArgumentSize}
 use Rattle.instruction_set.specs.declared.ArgumentSize.the-variants.{Bit64}
@@ -36,10 +35,6 @@ withRsp m x = withRegs m (set (m .regs) 4 x)
 abbrev pub after : MachineState → Store → List ℕ → Event → Outcome Value → After
 after m s l e o = record { machine = m; store = s; lent = l; event = e; outcome = o }
 
--- a call is accepted where its number is 0
-abbrev pub yields : {X : Type 0} → Outcome X → Bool
-yields o = eqb (o .number) 0
-
 -- memory's outcome among the answers'
 abbrev pub passed : Outcome ℕ → Outcome Value
 passed o = record { number = o .number; values = map word (o .values) }
@@ -59,7 +54,7 @@ writeMemory m s a d =
 
 -- a call that is accepted gives this value, and lends nothing
 abbrev pub valued : Outcome Value → ℕ → Outcome Value
-valued o v = cond (yields o) (gives (word v ∷ [])) o
+valued o v = cond (accepted o) (gives (word v ∷ [])) o
 
 abbrev pub withValue : After → ℕ → After
 withValue r v = after (r .machine) (r .store) [] (r .event) (valued (r .outcome) v)
@@ -95,7 +90,7 @@ writeOperand m s (arg.EffectiveAddress b i k d) z v = atAddress m s (addressOf m
 -- ---- the stack
 -- rsp moves where the call is accepted
 abbrev pub moved : After → ℕ → After
-moved r x = after (cond (yields (r .outcome)) (withRsp (r .machine) x) (r .machine)) (r .store) (r .lent) (r .event) (r .outcome)
+moved r x = after (cond (accepted (r .outcome)) (withRsp (r .machine) x) (r .machine)) (r .store) (r .lent) (r .event) (r .outcome)
 
 -- "A push writes at rsp minus the length, then moves rsp"; n below x, modulo 2^64
 abbrev pub below : ℕ → ℕ → ℕ

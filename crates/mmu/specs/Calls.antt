@@ -1,12 +1,12 @@
 -- What the public calls owe: each answer's number, the lent bytes afterwards, the store, and what is shown on the screen. Written from 01, "Refusal numbers" and
--- "Addresses, pages, walk"; every contract is an equation with one of these, so that no two outcomes satisfy it.
+-- "Addresses, pages, walk"; every contract is an equation with one of these, or a record of such equations (`Wrote`), so that no two outcomes satisfy it.
 use mathlib.Core.Path.{_≡_}
 use mathlib.Core.Bool.{Bool, true, cond, _&&_}
 use mathlib.Core.List.{List, [], _∷_}
 use Prim.Native.Nat.{ℕ, _*_, _%_}
 use lib.Dec.{leb, eqb}
 use lib.ListN.{length, getD, take, drop}
-use Rattle.utils.specs.Outcome.{Outcome, gives, refuses}
+use Rattle.utils.specs.Outcome.{Outcome, gives, refuses, accepted}
 use Rattle.mmu.specs.Store.{Store, sound, live, unused, foundIn, readAt, written, touched, absentOf}
 use Rattle.mmu.specs.Walk.{physical}
 use Rattle.mmu.specs.declared.Found.{Found}
@@ -28,9 +28,6 @@ abbrev pub outcomeOf : Answer → Outcome ℕ
 outcomeOf Done = gives []
 outcomeOf (Refused r) = refuses (numberOf r)
 
-abbrev pub accepted : Outcome ℕ → Bool
-accepted o = eqb (o .number) 0
-
 -- a read of n bytes: 4, then 5
 unfoldable pub readOutcome : Store → ℕ → Outcome ℕ
 readOutcome s n = cond (sound s) (cond (leb n 4096) (gives []) (refuses 5)) (refuses 4)
@@ -39,6 +36,7 @@ readOutcome s n = cond (sound s) (cond (leb n 4096) (gives []) (refuses 5)) (ref
 unfoldable pub readOut : Store → ℕ → ℕ → List ℕ → List ℕ
 readOut s cr3 a out = cond (accepted (readOutcome s (length out))) (readAt s (physical s cr3 a) (length out)) out
 
+-- "Length 0 .. still reaches memory for refusal 4": it touches no page, so 6 is never given; that no walk is done shows in no outcome, and is the code's
 -- a write of n bytes at physical p: 4, then 5, then 6, "a write touches more absent pages than there are unused slots"
 unfoldable pub writeOutcome : Store → ℕ → ℕ → Outcome ℕ
 writeOutcome s p n =

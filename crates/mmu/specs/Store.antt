@@ -86,11 +86,12 @@ unfoldable pub written : Store → ℕ → (ℕ → ℕ) → ℕ → Store
 written s p f zero = s
 written s p f (suc n) = putByte (written s p f n) (p + n) (f n)
 
--- the pages that n bytes from p on touch, for any n: from that of the first byte to that of the last
+-- k pages from page g on
 unfoldable pub pagesFrom : ℕ → ℕ → List ℕ
 pagesFrom g zero = []
 pagesFrom g (suc k) = g ∷ pagesFrom (g + 1) k
 
+-- the pages that n bytes from p on touch, for any n: from that of the first byte to that of the last
 unfoldable pub touched : ℕ → ℕ → List ℕ
 touched p zero = []
 touched p (suc m) = pagesFrom (p / 4096) (suc ((p + m) / 4096 - p / 4096))

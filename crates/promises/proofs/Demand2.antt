@@ -21,14 +21,16 @@ use Rattle.mmu.specs.Calls.{readOutcome, readOut, writeOutcome, writeStore}
 use Rattle.mmu.specs.Store.{Store, sound, readAt, byteAt}
 use Rattle.mmu.specs.Walk.{physical}
 use Rattle.mmu.proofs.Answers.{read-done, out-done, write-done, accepts-only}
+use Rattle.mmu.specs.History.{Change, after, lastByte}
+use Rattle.mmu.proofs.History.{last-writer}
 use Rattle.mmu.proofs.Laws.{law-out, law-read, law-sound}
 use Rattle.machine_state.specs.Answers.{Value, word, After}
 use Rattle.machine_state.specs.Flagged.{flagIn, setFlag}
 use Rattle.machine_state.specs.Machine.{parentAt, writeReg}
 use Rattle.machine_state.specs.Memory.{cr3, passed, readMemory, writeMemory}
 use Rattle.machine_state.specs.declared.MachineState.{MachineState}
-use Rattle.machine_state.proofs.Lanes.{write-in, write-out}
-use Rattle.promises.specs.Demand2.{ReadsAccepted, WritesAccepted, ReadsBack, OthersStay, Write, written, rewrites, leaves, lastLane, LanesLast, Setting, settings, lastFlag, FlagsLast}
+use Rattle.machine_state.proofs.Lanes.{write-in, write-out, write-read}
+use Rattle.promises.specs.Demand2.{ReadsAccepted, WritesAccepted, ReadsBack, OthersStay, Storing, stored, AllStored, places, BytesLast, RegistersBack, Write, written, rewrites, leaves, lastLane, LanesLast, Setting, settings, lastFlag, FlagsLast}
 
 -- ---- memory
 pub reads-accepted : ReadsAccepted
@@ -75,7 +77,19 @@ pub others-stay : OthersStay
 unfolding writeMemory
 others-stay m s a d e q h = law-out s (physical s (cr3 m) a) d (unpassed (writeOutcome s (physical s (cr3 m) a) (length d)) e) q h
 
+pub bytes-last : BytesLast
+unfolding lastByte after writeMemory
+bytes-last m s [] q h = refl
+bytes-last m s (w ∷ ws) q h =
+    let p = physical s (cr3 m) (w .address) in
+    let c : Change = record { place = p; bytes = w .bytes } in
+    bytes-last m (writeStore s p (w .bytes)) ws q (h .1)
+    ∙ ap (λ (b : ℕ). lastByte b (places m (writeStore s p (w .bytes)) ws) q) (last-writer s (c ∷ []) q (unpassed (writeOutcome s p (length (w .bytes))) (h .0), tt))
+
 -- ---- registers
+pub registers-back : RegistersBack
+registers-back m r v h = write-read m r v h
+
 regs-kept : (m : MachineState) (r : Register) (v : ℕ) → length (m .regs) ≡ 22 → length (writeReg m r v .regs) ≡ 22
 unfolding writeReg
 regs-kept m r v h = length-set (m .regs) (parentOf r) _ ∙ h

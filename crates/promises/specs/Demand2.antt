@@ -8,15 +8,16 @@ use Prim.Native.Nat.{ℕ, _+_, _-_, _*_, _%_, _^_, _<_, _≤_}
 use lib.Dec.{eqb, ltb, leb}
 use lib.ListN.{length}
 use Rattle.utils.specs.Outcome.{Outcome, gives}
-use Rattle.utils.specs.Word.{lane}
+use Rattle.utils.specs.Word.{lane, extend}
 use Rattle.instruction_set.specs.Registers.{parentOf, partOf, firstOf, readsOf, rewritesOf}
 use Rattle.instruction_set.specs.Sizes.{bitOf}
 use Rattle.instruction_set.specs.declared.Flags.{Flags}
 use Rattle.instruction_set.specs.declared.Register.{Register}
+use Rattle.mmu.specs.History.{Change, lastByte}
 use Rattle.mmu.specs.Store.{Store, sound, live, unused, touched, absentOf, byteAt}
 use Rattle.mmu.specs.Walk.{physical}
 use Rattle.machine_state.specs.Flagged.{flagIn, setFlag}
-use Rattle.machine_state.specs.Machine.{parentAt, writeReg}
+use Rattle.machine_state.specs.Machine.{parentAt, readReg, writeReg}
 use Rattle.machine_state.specs.Memory.{cr3, readMemory, writeMemory}
 use Rattle.machine_state.specs.declared.MachineState.{MachineState}
 
@@ -39,7 +40,34 @@ abbrev pub OthersStay : Type 0
 OthersStay =
     (m : MachineState) (s : Store) (a : ℕ) (d : List ℕ) → writeMemory m s a d .outcome ≡ gives [] → (q : ℕ) → (q < physical s (cr3 m) a) ⊎ (physical s (cr3 m) a + length d ≤ q) → byteAt (writeMemory m s a d .store) q ≡ byteAt s q
 
--- ---- registers: after any list of writes each lane of each parent is as its last writer left it
+-- none that honours only the first write of a list: after any list of accepted writes each byte is as its last writer left it. Each address is
+-- walked in its turn, over what the writes before it left; push, pop and memory operands are made of these calls
+pub record Storing : Type 0 where
+  pub address : ℕ
+  pub bytes : List ℕ
+
+abbrev pub stored : MachineState → Store → List Storing → Store
+stored m s [] = s
+stored m s (w ∷ ws) = stored m (writeMemory m s (w .address) (w .bytes) .store) ws
+
+abbrev pub AllStored : MachineState → Store → List Storing → Type 0
+AllStored m s [] = Unit {0}
+AllStored m s (w ∷ ws) = (writeMemory m s (w .address) (w .bytes) .outcome ≡ gives []) × AllStored m (writeMemory m s (w .address) (w .bytes) .store) ws
+
+-- where each of them goes
+abbrev pub places : MachineState → Store → List Storing → List Change
+places m s [] = []
+places m s (w ∷ ws) =
+    record { place = physical s (cr3 m) (w .address); bytes = w .bytes } ∷ places m (writeMemory m s (w .address) (w .bytes) .store) ws
+
+abbrev pub BytesLast : Type 0
+BytesLast = (m : MachineState) (s : Store) (ws : List Storing) (q : ℕ) → AllStored m s ws → byteAt (stored m s ws) q ≡ lastByte (byteAt s q) (places m s ws) q
+
+-- ---- registers: what is written reads back, sign-extended from the register's size, so none reads 0 always
+abbrev pub RegistersBack : Type 0
+RegistersBack = (m : MachineState) (r : Register) (v : ℕ) → length (m .regs) ≡ 22 → readReg (writeReg m r v) r ≡ extend (8 * readsOf (partOf r)) v
+
+-- after any list of writes each lane of each parent is as its last writer left it
 pub record Write : Type 0 where
   pub register : Register
   pub value : ℕ
@@ -56,7 +84,7 @@ rewrites r i j = eqb i (parentOf r) && (leb (firstOf (partOf r)) j && ltb j (fir
 abbrev pub leaves : Write → ℕ → ℕ
 leaves w j = lane (j - firstOf (partOf (w .register))) (w .value % 2 ^ (8 * readsOf (partOf (w .register))))
 
--- byte b of that lane, after the writes
+-- what a lane that held b holds after the writes
 unfoldable pub lastLane : ℕ → List Write → ℕ → ℕ → ℕ
 lastLane b [] i j = b
 lastLane b (w ∷ ws) i j = lastLane (cond (rewrites (w .register) i j) (leaves w j) b) ws i j

@@ -1,4 +1,4 @@
--- The ● examples of 01, one line each: on the left what the definitions give, on the right what the paper says.
+-- The ● examples of 01, one or two lines each: on the left what the definitions give, on the right what the paper says.
 use mathlib.Core.List.{List, [], _∷_}
 use mathlib.Core.Bool.{Bool, true, false}
 use Prim.Native.Nat.{ℕ, zero, suc, _-_, _^_}
@@ -17,7 +17,7 @@ use Rattle.mmu.specs.Store.{Store, storeOf, byteAt}
 use Rattle.mmu.specs.Walk.{physical}
 use Rattle.machine_state.specs.Address.{addressOf}
 use Rattle.machine_state.specs.Answers.{Value, word, truth, After}
-use Rattle.machine_state.specs.Flagged.{flagIn, computeFlags}
+use Rattle.machine_state.specs.Flagged.{flagIn, setFlag, computeFlags}
 use Rattle.machine_state.specs.Machine.{newMachine, readReg, writeReg}
 use Rattle.machine_state.specs.Memory.{loaded, pushed, writeMemory}
 use Rattle.machine_state.specs.declared.MachineState.{MachineState}
@@ -111,7 +111,7 @@ table =
     ∷ line (registers (rax 0x8000) (AH ∷ AL ∷ AX ∷ EAX ∷ [])) (minus 128 ∷ 0 ∷ minus 32768 ∷ 32768 ∷ [])
     ∷ line (valuesOf (loaded newMachine eighty 0 Bit8 .outcome .values)) (128 ∷ [])
     ∷ line (valuesOf (loaded newMachine eighty 0 Bit16 .outcome .values)) (minus 32640 ∷ [])
-    ∷ line (flags (computeFlags newMachine 256 Bit8)) (0 ∷ 0 ∷ 1 ∷ [])
+    ∷ line (flags (computeFlags (setFlag (setFlag newMachine Zero true) Sign true) 256 Bit8)) (0 ∷ 0 ∷ 1 ∷ [])
     ∷ line (addressOf (writeReg (rax 16) RBX (minus 1)) operand .values) (0 ∷ [])
     ∷ line (readReg (afterPush .machine) RSP ∷ valuesOf (loaded newMachine (afterPush .store) (minus 8) Bit64 .outcome .values)) (minus 8 ∷ 0x0807060504030201 ∷ [])
     ∷ line (afterTop .outcome .number ∷ byteAt (afterTop .store) 0 ∷ []) (0 ∷ 0 ∷ [])

@@ -1,5 +1,5 @@
 -- A word is a number below 2^64, bit for bit the Rust's i64. Here is what a field of its bits is, and what sign extension is.
--- Byte lanes of registers are fields of 8 bits and flags are fields of 1: nothing else in the house divides a register.
+-- Byte lanes and the parts of registers are fields of 8 to 64 bits, flags are fields of 1: one law serves them all.
 use mathlib.Core.Bool.{cond}
 use Prim.Native.Nat.{ℕ, _+_, _-_, _*_, _/_, _%_, _^_}
 use lib.Dec.{ltb}
