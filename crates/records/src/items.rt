@@ -444,39 +444,6 @@ fn decode_event(words: OperandWords) -> SomeEvent
     }
 }
 
-fn size(header: Header) -> Access
-    requires { ⌜ header .kind ≡ 16 ⌝ }
-    ensures { λ r. ⌜ accessMeans header r ⌝ }
-{
-    let built = decode_arguments(header, header.b, header.c);
-    match built {
-        SomeArguments::Malformed => Access::Malformed,
-        SomeArguments::Is(arguments) => Access::Size { arguments },
-    }
-}
-
-fn one_argument(header: Header) -> Access
-    requires { ⌜ header .kind ≡ 17 ⌝ }
-    ensures { λ r. ⌜ accessMeans header r ⌝ }
-{
-    let built = decode_arguments(header, header.b, header.c);
-    match built {
-        SomeArguments::Malformed => Access::Malformed,
-        SomeArguments::Is(arguments) => Access::OneArgument { arguments },
-    }
-}
-
-fn two_arguments(header: Header) -> Access
-    requires { ⌜ header .kind ≡ 18 ⌝ }
-    ensures { λ r. ⌜ accessMeans header r ⌝ }
-{
-    let built = decode_arguments(header, header.b, header.c);
-    match built {
-        SomeArguments::Malformed => Access::Malformed,
-        SomeArguments::Is(arguments) => Access::TwoArguments { arguments },
-    }
-}
-
 // The repeats do not show in the text: b and c are the buffer.
 fn arguments_text(header: Header) -> Told
     requires { ⌜ header .kind ≡ 33 ⌝ }
@@ -574,11 +541,15 @@ pub fn decode_told(header: Header) -> Told
 pub fn decode_access(header: Header) -> Access
     ensures { λ r. ⌜ accessMeans header r ⌝ }
 {
+    let built = decode_arguments(header, header.b, header.c);
+    let SomeArguments::Is(arguments) = built else {
+        return Access::Malformed;
+    };
     let kind = header.kind;
     match kind {
-        16 => size(header),
-        17 => one_argument(header),
-        18 => two_arguments(header),
+        16 => Access::Size { arguments },
+        17 => Access::OneArgument { arguments },
+        18 => Access::TwoArguments { arguments },
         _ => Access::Malformed,
     }
 }

@@ -9,18 +9,6 @@ use borrow.Author.Needs.{needs}
 use Rattle.records.proofs.items.displacement.Statement.{statement}
 use Rattle.records.proofs.items.displacement.Tie as tie
 
-signed-requires : tie.Need-signed-requires
-signed-requires c κs = search needs
-
-returns : tie.Need-returns
-returns c = search needs
-
-returns-2 : tie.Need-returns-2
-returns-2 c = search needs
-
-cast-t4 : tie.Need-cast-t4
-cast-t4 c = narrow (toZ w64 (ofZ w64 (c .before .before .signed .result))) (c .before .if1 .left) (c .if2 .left)
-
 returns-3 : tie.Need-returns-3
 returns-3 c =
     let a = c .before .before .before .args in
@@ -31,4 +19,9 @@ returns-3 c =
     (rw (e, toZ-ofZ w32 (toZ w64 (a .word)) fits) (sym back), rw (e, toZ-ofZ w32 (toZ w64 (a .word)) fits) fits)
 
 pub displacement-spec : {M : Type 1} → statement M
-displacement-spec = tie.close (tie.spec signed-requires returns returns-2 cast-t4 returns-3)
+displacement-spec = tie.close (tie.spec
+    (λ c κs. search needs)
+    (λ c. search needs)
+    (λ c. search needs)
+    (λ c. narrow (toZ w64 (ofZ w64 (c .before .before .signed .result))) (c .before .if1 .left) (c .if2 .left))
+    returns-3)
