@@ -1,6 +1,7 @@
-// Calls as records of bytes (docs/FORMAT.md): a header of 16 words is decoded into what it asks for, and a reply is encoded as an answer of 8 words. What is no
-// record is malformed. Below are calls and text, whose calls the records ask for; above are session, which carries a record out, and drive, a program
-// that reads records and writes answers. So the machine can be compared with the Rust, call by call. No demand of document 01 rests on this crate.
+// Calls as records of bytes (docs/FORMAT.md): a header of 16 words is decoded into what it asks for, and a reply is encoded as an answer of 8 words.
+// What is no record is malformed. Below are calls and text, whose calls the records ask for; above are session, which carries a record out, and
+// drive, a program that reads records and writes answers. So the machine can be compared with the Rust, call by call. No demand of document 01
+// rests on this crate.
 use calls::Call;
 use instruction_set::ArgumentSize;
 use instruction_set::InstructionArgument;

@@ -1,5 +1,6 @@
-// One record carried out on a machine and a lent store, with the bytes lent beside it. Below are records, which decodes records and encodes replies, and calls, text, mmu and exposed, which do the work; above is drive, the program that reads records and writes answers.
-// docs/FORMAT.md says what each record does. No demand of document 01 rests on this crate: what it carries out is compared with the Rust from outside.
+// One record carried out on a machine and a lent store, with the bytes lent beside it. Below are records, which decodes records and encodes replies,
+// and calls, text, mmu and exposed, which do the work; above is drive, the program that reads records and writes answers. docs/FORMAT.md says what
+// each record does. No demand of document 01 rests on this crate: what it carries out is compared with the Rust from outside.
 use machine_state::Answer;
 use machine_state::Answered;
 use machine_state::Event;
