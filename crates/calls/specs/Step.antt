@@ -3,7 +3,7 @@
 use mathlib.Core.List.{List, [], _∷_}
 use Prim.Native.Nat.{ℕ}
 use Rattle.utils.specs.Outcome.{Outcome, gives}
-use Rattle.mmu.specs.Store.{Store}
+use Rattle.store.specs.Store.{Store}
 use Rattle.machine_state.specs.Address.{addressOf}
 use Rattle.machine_state.specs.Answers.{Value, word, truth, After}
 use Rattle.machine_state.specs.Flagged.{flagIn, setFlag, computeFlags}
@@ -12,7 +12,6 @@ use Rattle.machine_state.specs.declared.Address.{Address}
 use Rattle.machine_state.specs.declared.Address.the-variants as at
 use Rattle.machine_state.specs.declared.Answer.{Answer}
 use Rattle.machine_state.specs.declared.Answer.the-variants as answer
-use Rattle.machine_state.specs.declared.Answered.{Answered}
 use Rattle.machine_state.specs.declared.Event.the-variants.{Quiet}
 use Rattle.machine_state.specs.declared.MachineState.{MachineState}
 use Rattle.calls.specs.declared.Call.{Call}
@@ -38,6 +37,3 @@ step (ComputeFlags x z) m s l = after (computeFlags m x z) s l Quiet (gives [])
 abbrev pub addressAnswer : Address → Answer
 addressAnswer (at.At a) = answer.Value a
 addressAnswer (at.Refused r) = answer.Refused r
-
-abbrev pub kept : MachineState → ℕ → Answer → Answered
-kept m u a = record { machine = m; used = u; event = Quiet; answer = a }

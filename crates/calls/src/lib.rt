@@ -1,5 +1,5 @@
 // Every call of 01's table as one value, and the function that carries one out. Below is machine_state, whose methods do the work; above are
-// exposed, which says which places a call reads and rewrites, and the programs that read calls from outside.
+// rows, which says which places a call reads and rewrites, and the programs that read calls from outside.
 // Document 01: "Places and calls". The arguments of a call are fixed in its value; the bytes that push and write memory write, and the buffer that
 // read memory fills, are lent beside it.
 use instruction_set::ArgumentSize;
@@ -11,9 +11,10 @@ use machine_state::Answered;
 use machine_state::Event;
 use machine_state::MachineState;
 ghost use mathlib.Core.Path.{_≡_};
-ghost use Rattle.mmu.specs.Store.{storeOf};
+ghost use Rattle.store.specs.Store.{storeOf};
 ghost use Rattle.machine_state.specs.Answers.{left};
-ghost use Rattle.calls.specs.Step.{step, addressAnswer, kept};
+ghost use Rattle.machine_state.specs.Steps.{finished};
+ghost use Rattle.calls.specs.Step.{step, addressAnswer};
 
 pub enum Call {
     ReadOperand {
@@ -60,7 +61,7 @@ fn address_answer(address: Address) -> Answer
 
 // The machine as it is now, with no event and the count as it was.
 fn keep(machine: MachineState, used: usize, answer: Answer) -> Answered
-    ensures { λ r. ⌜ r ≡ kept machine used answer ⌝ }
+    ensures { λ r. ⌜ r ≡ finished machine used answer ⌝ }
 {
     Answered {
         machine,

@@ -6,7 +6,7 @@ use libc::STDIN_FILENO;
 use libc::STDOUT_FILENO;
 use machine_state::MachineState;
 use records::Header;
-use records::Reply;
+use session::Carried;
 
 // Where the program stands: the machine, how much of the arrays is the store, the slots in use, whether to go on, and how many records were answered.
 struct Run {
@@ -37,9 +37,11 @@ fn read_block(n: usize, block: &mut [u8]) -> bool {
     got == n
 }
 
-fn write_answer(reply: Reply, block: &[u8]) -> bool {
+fn write_answer(carried: Carried, block: &[u8]) -> bool {
+    let event = carried.event;
+    let reply = carried.reply;
     let n = reply.given;
-    let out = records::encode(reply);
+    let out = records::encode(reply, event, carried.used);
     if !io::write_all(STDOUT_FILENO, &out) {
         return false;
     }
@@ -50,19 +52,20 @@ fn write_answer(reply: Reply, block: &[u8]) -> bool {
 }
 
 // The answer, and where the program stands after it.
-fn answer(reply: Reply, run: Run, block: &[u8]) -> Run {
+fn answer(carried: Carried, run: Run, block: &[u8]) -> Run {
+    let reply = carried.reply;
     if !reply.formed {
         return complain(b" is malformed\n", run);
     }
-    if !write_answer(reply, block) {
+    if !write_answer(carried, block) {
         return complain(b": the answer could not be written\n", run);
     }
-    let machine = reply.machine;
+    let machine = carried.machine;
     Run {
         machine,
         slots: run.slots,
         length: run.length,
-        used: reply.used,
+        used: carried.used,
         more: true,
         answered: std::num::wrapping_add_u64(run.answered, 1),
     }
@@ -94,7 +97,7 @@ fn carried(
     n: usize,
     dir: &mut [u64],
     bytes: &mut [u8],
-) -> Reply {
+) -> Carried {
     let slots = run.slots;
     let length = run.length;
     let machine = run.machine;
@@ -123,7 +126,7 @@ fn restart(header: Header, run: Run, block: &[u8], dir: &mut [u64], bytes: &mut 
         return complain(b" is malformed\n", run);
     }
     let machine = start.machine;
-    let reply = session::quiet(machine, start.used, 0, 0, 0, 0);
+    let done = session::done(machine, start.used);
     let fresh = Run {
         machine,
         slots: start.slots,
@@ -132,7 +135,7 @@ fn restart(header: Header, run: Run, block: &[u8], dir: &mut [u64], bytes: &mut 
         more: true,
         answered: run.answered,
     };
-    answer(reply, fresh, block)
+    answer(done, fresh, block)
 }
 
 fn carry_out(
@@ -145,17 +148,12 @@ fn carry_out(
     if header.kind == records::RESET {
         return restart(header, run, block, dir, bytes);
     }
-    let machine = run.machine;
-    if header.kind == records::REPORT {
-        let report = session::exposed_report(header, machine, block, run.used);
-        return answer(report, run, block);
-    }
     let n = lent_length(header);
     if fills(header.kind) {
-        records::fill(block, n, (header.c % 256) as u8);
+        runs::fill(block, 0, n, (header.c % 256) as u8);
     }
-    let reply = carried(header, run, block, n, dir, bytes);
-    answer(reply, run, block)
+    let left = carried(header, run, block, n, dir, bytes);
+    answer(left, run, block)
 }
 
 // One record.

@@ -12,91 +12,14 @@ use lib.Dec.{eqb}
 use lib.ListN.{length, getD, set, length-set, take, drop, replicate, length-take, drop-of-length-le}
 use lib.Seq.{ext-getD, getD-set-same, getD-set-other, drop-cons, getD-take}
 use borrow.Author.Tests.{eqb-true, eqb-false, le-leb, lt-leb}
+use Rattle.utils.proofs.Bools.{tested}
 use Rattle.utils.specs.Outcome.{gives, refuses}
-use Rattle.instruction_set.specs.Registers.{partOf}
-use Rattle.instruction_set.specs.declared.InstructionArgument.the-variants as arg
-use Rattle.instruction_set.specs.declared.Register.{Register}
-use Rattle.instruction_set.specs.declared.SomeRegister.{SomeRegister}
-use Rattle.instruction_set.specs.declared.SomeRegister.the-variants.{Absent, Present}
-use Rattle.instruction_set.proofs.Bounds.{parent-below, reads-within, rewrites-within}
-use Rattle.calls.specs.declared.Call.{Call}
-use Rattle.calls.specs.declared.Call.the-variants.{ReadOperand, WriteOperand, EffectiveAddress, Push, Pop, ReadMemory, WriteMemory, TestFlag, SetFlag, ComputeFlags}
-use Rattle.exposed.specs.Exposed.{exposed}
-use Rattle.exposed.specs.Reported.{listed, Says, entryReads, entryRewrites, reported, Marked, Inside}
-use Rattle.exposed.specs.Rows.{span, spans, none, rsp, cr3, nothing, readSpan, rewriteSpan, partSpan, flagSpan, readsOf, rewritesOf, inSpan, inSpans}
+use Rattle.rows.specs.Exposed.{exposed}
+use Rattle.rows.specs.Rows.{span, readsOf, rewritesOf, inSpan, inSpans}
+use Rattle.rows.specs.declared.Spans.{Spans}
+use Rattle.rows.proofs.Within.{in-low, in-high, in-yes, in-no, in-out}
+use Rattle.exposed.specs.Reported.{listed, Says, entryReads, entryRewrites, reported, Marked}
 use Rattle.exposed.specs.declared.CallEntry.{CallEntry}
-use Rattle.exposed.specs.declared.Span.{Span}
-use Rattle.exposed.specs.declared.Spans.{Spans}
-use Rattle.exposed.proofs.Forgotten.{tested}
-use Rattle.exposed.proofs.Within.{in-low, in-high, in-yes, in-no, in-out, flag-below}
-
--- ---- every row stands within the 182 places
-abbrev Ends : Span → Type 0
-Ends s = s .start + s .count ≤ 182
-
-read-ends : (r : Register) → Ends (readSpan r)
-read-ends r = omega (arith, parent-below r, reads-within (partOf r))
-
-rewrite-ends : (r : Register) → Ends (rewriteSpan r)
-rewrite-ends r = omega (arith, parent-below r, rewrites-within (partOf r))
-
-part-ends : (b : SomeRegister) → Ends (partSpan b)
-part-ends Absent = omega arith
-part-ends (Present r) = read-ends r
-
-no-inside : Inside nothing
-no-inside = record { one = omega arith; two = omega arith; three = omega arith; four = omega arith }
-
-one-inside : (s : Span) → Ends s → Inside (spans s none none none)
-one-inside s h = record { one = h; two = omega arith; three = omega arith; four = omega arith }
-
-address-inside : (b i : SomeRegister) (s : Span) → Ends s → Inside (spans (partSpan b) (partSpan i) s none)
-address-inside b i s h = record { one = part-ends b; two = part-ends i; three = h; four = omega arith }
-
-pub reads-inside : (c : Call) → Inside (readsOf c)
-unfolding readsOf
-reads-inside (ReadOperand (arg.Register r) z) = one-inside (readSpan r) (read-ends r)
-reads-inside (ReadOperand (arg.Immediate v) z) = no-inside
-reads-inside (ReadOperand (arg.EffectiveAddress b i k d) z) = address-inside b i cr3 (omega arith)
-reads-inside (WriteOperand (arg.Register r) z v) = no-inside
-reads-inside (WriteOperand (arg.Immediate x) z v) = no-inside
-reads-inside (WriteOperand (arg.EffectiveAddress b i k d) z v) = address-inside b i cr3 (omega arith)
-reads-inside (EffectiveAddress (arg.Register r)) = no-inside
-reads-inside (EffectiveAddress (arg.Immediate v)) = no-inside
-reads-inside (EffectiveAddress (arg.EffectiveAddress b i k d)) = address-inside b i none (omega arith)
-reads-inside Push = record { one = omega arith; two = omega arith; three = omega arith; four = omega arith }
-reads-inside Pop = record { one = omega arith; two = omega arith; three = omega arith; four = omega arith }
-reads-inside (ReadMemory a) = one-inside cr3 (omega arith)
-reads-inside (WriteMemory a) = one-inside cr3 (omega arith)
-reads-inside (TestFlag f) = one-inside (flagSpan f) (omega (arith, flag-below f))
-reads-inside (SetFlag f b) = no-inside
-reads-inside (ComputeFlags x z) = no-inside
-
-pub rewrites-inside : (c : Call) → Inside (rewritesOf c)
-unfolding rewritesOf
-rewrites-inside (ReadOperand a z) = no-inside
-rewrites-inside (WriteOperand (arg.Register r) z v) = one-inside (rewriteSpan r) (rewrite-ends r)
-rewrites-inside (WriteOperand (arg.Immediate x) z v) = no-inside
-rewrites-inside (WriteOperand (arg.EffectiveAddress b i k d) z v) = no-inside
-rewrites-inside (EffectiveAddress a) = no-inside
-rewrites-inside Push = one-inside rsp (omega arith)
-rewrites-inside Pop = one-inside rsp (omega arith)
-rewrites-inside (ReadMemory a) = no-inside
-rewrites-inside (WriteMemory a) = no-inside
-rewrites-inside (TestFlag f) = no-inside
-rewrites-inside (SetFlag f b) = one-inside (flagSpan f) (omega (arith, flag-below f))
-rewrites-inside (ComputeFlags x z) = record { one = omega arith; two = omega arith; three = omega arith; four = omega arith }
-
--- so that no other place is in a row
-pub none-above : (s : Spans) (p : ℕ) → Inside s → 182 ≤ p → inSpans s p ≡ false
-unfolding inSpans
-none-above s p i h =
-    simp (
-      in-out (s .one) p (inr (omega (arith, i .one))),
-      in-out (s .two) p (inr (omega (arith, i .two))),
-      in-out (s .three) p (inr (omega (arith, i .three))),
-      in-out (s .four) p (inr (omega (arith, i .four))),
-    )
 
 -- ---- marking
 pub mark-none : (on : List Bool) (a : ℕ) (v : Bool) → Marked on on (inSpan (span a (a - a))) v

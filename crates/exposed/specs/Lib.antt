@@ -1,4 +1,1 @@
-pub mod Rows
-pub mod Exposed
-pub mod Places
 pub mod Reported

@@ -2,15 +2,14 @@
 use mathlib.Core.Bool.{Bool, false, cond}
 use mathlib.Core.List.{List, [], _∷_}
 use mathlib.Core.Path.{_≡_}
-use Prim.Native.Nat.{ℕ, zero, suc, _+_, _≤_}
+use Prim.Native.Nat.{ℕ, zero, suc}
 use lib.Dec.{leb}
 use lib.ListN.{length, getD, take, replicate}
 use Rattle.utils.specs.Outcome.{Outcome, gives, refuses}
-use Rattle.exposed.specs.Exposed.{exposed}
-use Rattle.exposed.specs.Rows.{readsOf, rewritesOf, inSpans}
+use Rattle.rows.specs.Exposed.{exposed}
+use Rattle.rows.specs.Rows.{readsOf, rewritesOf, inSpans}
 use Rattle.exposed.specs.declared.CallEntry.{CallEntry}
 use Rattle.exposed.specs.declared.Report.{Report}
-use Rattle.exposed.specs.declared.Spans.{Spans}
 use Rattle.exposed.specs.declared.Verdict.{Verdict}
 use Rattle.exposed.specs.declared.Verdict.the-variants.{Listed, TooManyCalls}
 
@@ -50,10 +49,3 @@ reported calls n =
 pub record Marked (on out : List Bool) (w : ℕ → Bool) (v : Bool) : Type 0 where
   pub long : length out ≡ length on
   pub at : (k : ℕ) → getD out k false ≡ cond (w k) v (getD on k false)
-
--- the spans hold no place but the 182
-pub record Inside (s : Spans) : Type 0 where
-  pub one : s .one .start + s .one .count ≤ 182
-  pub two : s .two .start + s .two .count ≤ 182
-  pub three : s .three .start + s .three .count ≤ 182
-  pub four : s .four .start + s .four .count ≤ 182

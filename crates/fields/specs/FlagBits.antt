@@ -7,6 +7,7 @@ use Rattle.utils.specs.Word.{cut, put}
 use Rattle.instruction_set.specs.Sizes.{bytesOf, bitOf}
 use Rattle.instruction_set.specs.declared.ArgumentSize.{ArgumentSize}
 use Rattle.instruction_set.specs.declared.Flags.{Flags}
+use Rattle.instruction_set.specs.declared.Flags.the-variants.{Parity, Zero, Sign}
 
 -- bit k of a word
 unfoldable pub bitSet : ℕ → ℕ → Bool
@@ -30,3 +31,7 @@ signIn s x = bitSet (8 * bytesOf s - 1) x
 -- "Parity if the low byte has an even number of ones"
 unfoldable pub evenOnes : ℕ → Bool
 evenOnes x = eqb (ones (x % 2 ^ 8) % 2) 0
+
+-- "Zero if the whole 64-bit result is 0 whatever the size"; other bits of rflags stay
+abbrev pub computedFlags : ℕ → ℕ → ArgumentSize → ℕ
+computedFlags x v s = putFlag (putFlag (putFlag x Zero (eqb v 0)) Sign (signIn s v)) Parity (evenOnes v)

@@ -6,7 +6,7 @@ use instruction_set::Flags;
 use instruction_set::Part;
 ghost use mathlib.Core.Path.{_≡_};
 ghost use Rattle.fields.specs.Parts.{readOf, writeOf, memoryValue};
-ghost use Rattle.fields.specs.FlagBits.{flagOf, putFlag, signIn, evenOnes};
+ghost use Rattle.fields.specs.FlagBits.{flagOf, putFlag, signIn, evenOnes, computedFlags};
 
 // The part's lanes of its parent, sign-extended.
 pub fn read_part(part: Part, x: u64) -> u64
@@ -88,4 +88,13 @@ pub fn even_parity(result: u64) -> bool
         i += 1;
     }
     parity != 1
+}
+
+// rflags after a result. Zero looks at all 64 bits whatever the size, as in the Rust.
+pub fn computed_flags(x: u64, result: u64, size: ArgumentSize) -> u64
+    ensures { λ r. ⌜ r ≡ computedFlags x result size ⌝ }
+{
+    let zero = with_flag(x, Flags::Zero, result == 0);
+    let sign = with_flag(zero, Flags::Sign, sign_bit(result, size));
+    with_flag(sign, Flags::Parity, even_parity(result))
 }

@@ -20,7 +20,8 @@ use Rattle.instruction_set.specs.declared.InstructionArgument.the-variants as a
 use Rattle.instruction_set.proofs.InstructionArgument.{the-type as operand}
 use Rattle.fields.specs.Parts.{memoryValue}
 use Rattle.mmu.specs.Calls.{outcomeOf as memoryOutcome, readOutcome, readOut, Wrote}
-use Rattle.mmu.specs.Store.{Store, storeOf}
+use Rattle.store.specs.Store.{Store, storeOf}
+use Rattle.mmu.specs.Walk.{physical}
 use Rattle.mmu.specs.declared.Answer.{Answer as MemoryAnswer}
 use Rattle.mmu.specs.declared.Answer.the-variants as memory
 use Rattle.mmu.specs.declared.Refusal.the-variants.{BadStore, TooLong, NoRoom}
@@ -84,7 +85,7 @@ pub read-left : (m : MachineState) (d b : List ℕ) (u a : ℕ) (out o : List �
 unfolding readMemory
 read-left m d b u a out o r e f = rw (f, memory-outcome r, e)
 
-pub write-left : (m : MachineState) (s : Store) (d b : List ℕ) (u a : ℕ) (l : List ℕ) (r : MemoryAnswer) (x : Shown) → Wrote s (storeOf d b u) (cr3 m) a l r x → left (answered m u (eventShown x) (fromMemory r)) d b l ≡ writeMemory m s a l
+pub write-left : (m : MachineState) (s : Store) (d b : List ℕ) (u a : ℕ) (l : List ℕ) (r : MemoryAnswer) (x : Shown) → Wrote s (storeOf d b u) (physical s (cr3 m) a) l r x → left (answered m u (eventShown x) (fromMemory r)) d b l ≡ writeMemory m s a l
 unfolding writeMemory
 write-left m s d b u a l r x w =
     ap (λ (t : Store). after m t l (eventShown x) (outcomeOf (fromMemory r))) (w .store) ∙ rw (w .shown, memory-outcome r, w .answer)

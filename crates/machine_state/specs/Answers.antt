@@ -4,7 +4,7 @@ use mathlib.Core.List.{List, [], _∷_}
 use Prim.Native.Nat.{ℕ}
 use Rattle.utils.specs.Outcome.{Outcome, gives, refuses}
 use Rattle.mmu.specs.Calls.{numberOf as memoryNumber}
-use Rattle.mmu.specs.Store.{Store, storeOf}
+use Rattle.store.specs.Store.{Store, storeOf}
 use Rattle.machine_state.specs.declared.Address.{Address}
 use Rattle.machine_state.specs.declared.Address.the-variants as at
 use Rattle.machine_state.specs.declared.Answer.{Answer}

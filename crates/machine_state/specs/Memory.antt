@@ -12,7 +12,7 @@ use Rattle.instruction_set.specs.declared.InstructionArgument.{InstructionArgum
 use Rattle.instruction_set.specs.declared.InstructionArgument.the-variants as arg
 use Rattle.fields.specs.Parts.{memoryValue}
 use Rattle.mmu.specs.Calls.{readOutcome, readOut, writeOutcome, writeStore, shownOf}
-use Rattle.mmu.specs.Store.{Store}
+use Rattle.store.specs.Store.{Store}
 use Rattle.mmu.specs.Walk.{physical}
 use Rattle.mmu.specs.declared.Shown.{Shown}
 use Rattle.mmu.specs.declared.Shown.the-variants as shown

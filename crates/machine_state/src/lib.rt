@@ -123,13 +123,10 @@ impl MachineState {
         }
     }
 
-    // Zero looks at all 64 bits whatever the size, as in the Rust.
     pub fn compute_flags(mut self, result: u64, argument_size: ArgumentSize) -> Changed
         ensures { λ r. ⌜ r ≡ changed (computeFlags self result «argument_size») Quiet ⌝ }
     {
-        let zero = fields::with_flag(self.rflags, Flags::Zero, result == 0);
-        let sign = fields::with_flag(zero, Flags::Sign, fields::sign_bit(result, argument_size));
-        self.rflags = fields::with_flag(sign, Flags::Parity, fields::even_parity(result));
+        self.rflags = fields::computed_flags(self.rflags, result, argument_size);
         Changed {
             machine: self,
             event: Event::Quiet,

@@ -11,7 +11,7 @@ use instruction_set::ArgumentSize;
 use instruction_set::InstructionArgument;
 ghost use mathlib.Core.List.{[]};
 ghost use mathlib.Core.Path.{_≡_};
-ghost use Rattle.mmu.specs.Store.{storeOf};
+ghost use Rattle.store.specs.Store.{storeOf};
 ghost use Rattle.machine_state.specs.Answers.{left};
 ghost use Rattle.machine_state.specs.Memory.{eventShown, readMemory, writeMemory, loaded, storedAt, readOperand, writeOperand, pushed, popped};
 ghost use Rattle.machine_state.specs.Steps.{finished, fromMemory, givenValue, givenRsp};

@@ -3,13 +3,16 @@
 use mathlib.Core.Path.{_≡_, refl, sym, ap, _∙_}
 use mathlib.Core.Bool.{Bool, true, false, cond}
 use mathlib.Core.List.{List, [], _∷_}
-use Prim.Native.Nat.{ℕ, _%_, _<_, _≤_}
+use Prim.Native.Nat.{ℕ, _+_, _*_, _%_, _<_, _≤_}
 use native.Mathlib.Omega.{arith}
 use lib.Dec.{leb}
 use lib.ListN.{length, getD}
 use borrow.Author.Tests.{leb-true, le-leb, lt-leb, eq-eqb, ne-eqb}
+use Rattle.runs.specs.Runs.{tabulate, filled, bytesOf}
 use Rattle.utils.specs.Outcome.{Outcome, gives, refuses}
-use Rattle.mmu.specs.Store.{Store, storeOf, sound, live, unused, tabulate, readAt, written, touched, absentOf}
+use Rattle.store.specs.Store.{Store, storeOf, sound, live, slotOf, unused, readAt, written, touched, absentOf}
+use Rattle.store.specs.Facts.{Sound}
+use Rattle.store.specs.declared.Found.the-variants.{At}
 use Rattle.mmu.specs.Walk.{physical}
 use Rattle.mmu.specs.Calls.{numberOf, outcomeOf, readOutcome, readOut, writeOutcome, writeStore, byteOf, cell, shownAt, shownOf, Wrote}
 use Rattle.mmu.specs.Parts.{Fits, RefusedFor}
@@ -20,7 +23,9 @@ use Rattle.mmu.specs.declared.Answer.the-variants.{Done, Refused}
 use Rattle.mmu.specs.declared.Shown.{Shown}
 use Rattle.mmu.specs.declared.Shown.the-variants.{Nothing as Dark, Byte}
 use Rattle.mmu.specs.declared.Written.{Written}
-use Rattle.mmu.proofs.Read.{sound-facts}
+use Rattle.store.proofs.Read.{sound-facts, sound-true}
+use Rattle.store.proofs.Absent.{slot-at, present-none}
+use Rattle.mmu.proofs.Turns.{part-whole}
 
 -- ---- an outcome tells its answer
 refusal-one : (a b : Refusal) → numberOf a ≡ numberOf b → a ≡ b
@@ -166,31 +171,38 @@ shown-empty p [] h = refl
 shown-empty p (b ∷ d) h = absurd (omega arith)
 
 -- ---- all that a write owes, from what the code's steps give
-pub wrote-refused : (s : Store) (cr3 a : ℕ) (d : List ℕ) (r : Refusal) → writeOutcome s (physical s cr3 a) (length d) ≡ refuses (numberOf r) → Wrote s s cr3 a d (Refused r) Dark
-wrote-refused s cr3 a d r e =
+pub wrote-refused : (s : Store) (p : ℕ) (d : List ℕ) (r : Refusal) → writeOutcome s p (length d) ≡ refuses (numberOf r) → Wrote s s p d (Refused r) Dark
+wrote-refused s p d r e =
     let n = number-some r in
-    record { answer = sym e; shown = sym (dark-refused s (physical s cr3 a) (numberOf r) d n e); store = sym (store-refused s (physical s cr3 a) (numberOf r) d n e) }
+    record { answer = sym e; shown = sym (dark-refused s p (numberOf r) d n e); store = sym (store-refused s p (numberOf r) d n e) }
 
-pub wrote-done : (s t : Store) (cr3 a p : ℕ) (d : List ℕ) (e : Shown) → p ≡ physical s cr3 a → writeOutcome s p (length d) ≡ gives []
-    → t ≡ written s p (byteOf d) (length d) → e ≡ shownAt p d → Wrote s t cr3 a d Done e
-wrote-done s t cr3 a p d e q o et ee =
-    let o′ : writeOutcome s (physical s cr3 a) (length d) ≡ gives [] = rw (sym q) o in
-    record {
-      answer = sym o′;
-      shown = ee ∙ ap (λ (x : ℕ). shownAt x d) q ∙ sym (shown-done s (physical s cr3 a) d o′);
-      store = et ∙ ap (λ (x : ℕ). written s x (byteOf d) (length d)) q ∙ sym (store-done s (physical s cr3 a) d o′);
-    }
+pub wrote-done : (s t : Store) (p : ℕ) (d : List ℕ) (e : Shown) → writeOutcome s p (length d) ≡ gives [] → t ≡ written s p (byteOf d) (length d) → e ≡ shownAt p d
+    → Wrote s t p d Done e
+wrote-done s t p d e o et ee = record { answer = sym o; shown = ee ∙ sym (shown-done s p d o); store = et ∙ sym (store-done s p d o) }
 
 -- length 0: accepted with no walk, and nothing changes
-pub wrote-empty : (s : Store) (cr3 a : ℕ) (d : List ℕ) → sound s ≡ true → length d ≡ 0 → Wrote s s cr3 a d Done Dark
-wrote-empty s cr3 a d e z =
-    wrote-done s s cr3 a (physical s cr3 a) d Dark refl (write-empty s (physical s cr3 a) (length d) e z) (rw z (unfold written in refl)) (shown-empty (physical s cr3 a) d z)
+pub wrote-empty : (s : Store) (p : ℕ) (d : List ℕ) → sound s ≡ true → length d ≡ 0 → Wrote s s p d Done Dark
+wrote-empty s p d e z = wrote-done s s p d Dark (write-empty s p (length d) e z) (rw z (unfold written in refl)) (shown-empty p d z)
+
+-- copied at once into the slot of its page
+pub wrote-here : (s : Store) → Sound s → (p i : ℕ) (d b : List ℕ) (e : Shown) → slotOf (live s) p (length d) ≡ At i → length d ≤ 4096
+    → b ≡ filled (s .bytes) (4096 * i + p % 4096) (bytesOf d 0) (length d) → e ≡ shownAt p d → Wrote s (storeOf (s .dir) b (s .used)) p d Done e
+wrote-here s h p i d b e q short eb ee =
+    let w = slot-at (live s) p (length d) i q in
+    wrote-done s (storeOf (s .dir) b (s .used)) p d e
+    (write-done s p (length d) (sound-true s h) short (omega (arith, present-none (live s) p (length d) i (w .1) (w .0))))
+    (part-whole s p i (length d) d b (w .1) (w .0) eb)
+    ee
+
+-- where the walk leads
+pub wrote-there : {s t : Store} {p q : ℕ} {d : List ℕ} {r : Answer} {e : Shown} → p ≡ q → Wrote s t p d r e → Wrote s t q d r e
+wrote-there h w = rw (sym h) w
 
 -- ---- a write's contract leaves no choice
-pub wrote-one : (s t t′ : Store) (cr3 a : ℕ) (d : List ℕ) (r r′ : Answer) (e e′ : Shown) → Wrote s t cr3 a d r e → Wrote s t′ cr3 a d r′ e′ → (r ≡ r′) × (e ≡ e′) × (t ≡ t′)
-wrote-one s t t′ cr3 a d r r′ e e′ w w′ = (outcome-one r r′ (w .answer ∙ sym (w′ .answer)), w .shown ∙ sym (w′ .shown), w .store ∙ sym (w′ .store))
+pub wrote-one : (s t t′ : Store) (p : ℕ) (d : List ℕ) (r r′ : Answer) (e e′ : Shown) → Wrote s t p d r e → Wrote s t′ p d r′ e′ → (r ≡ r′) × (e ≡ e′) × (t ≡ t′)
+wrote-one s t t′ p d r r′ e e′ w w′ = (outcome-one r r′ (w .answer ∙ sym (w′ .answer)), w .shown ∙ sym (w′ .shown), w .store ∙ sym (w′ .store))
 
 -- the answer of a refused write, as the code hands it back
-pub wrote-refused-for : (s : Store) (cr3 a : ℕ) (d : List ℕ) (r : Refusal) (w : Written) → RefusedFor w r (s .used)
-    → writeOutcome s (physical s cr3 a) (length d) ≡ refuses (numberOf r) → Wrote s (storeOf (s .dir) (s .bytes) (w .used)) cr3 a d (w .answer) (w .shown)
-wrote-refused-for s cr3 a d r w h e = rw (h .answer, h .count, h .dark) (wrote-refused s cr3 a d r e)
+pub wrote-refused-for : (s : Store) (p : ℕ) (d : List ℕ) (r : Refusal) (w : Written) → RefusedFor w r (s .used)
+    → writeOutcome s p (length d) ≡ refuses (numberOf r) → Wrote s (storeOf (s .dir) (s .bytes) (w .used)) p d (w .answer) (w .shown)
+wrote-refused-for s p d r w h e = rw (h .answer, h .count, h .dark) (wrote-refused s p d r e)

@@ -10,7 +10,7 @@ use lib.Dec.{ltb, leb}
 use lib.ListN.{length, getD}
 use borrow.Author.Tests.{leb-true, leb-false, ltb-true, ltb-false}
 use Rattle.utils.specs.Outcome.{gives}
-use Rattle.mmu.specs.Store.{Store, byteAt}
+use Rattle.store.specs.Store.{Store, byteAt}
 use Rattle.mmu.specs.Calls.{writeOutcome, writeStore}
 use Rattle.mmu.specs.History.{Change, after, AllAccepted, covers, lastByte}
 use Rattle.mmu.proofs.Laws.{law-in, law-out}

@@ -8,13 +8,13 @@ use Prim.Native.Nat.{ℕ, _+_, _*_, _/_, _<_, _≤_}
 use native.Mathlib.Omega.{arith}
 use lib.ListN.{length, getD}
 use Rattle.utils.specs.Outcome.{gives}
-use Rattle.mmu.specs.Store.{Store, sound, live, byteAt, readAt, written, touched, absentOf}
+use Rattle.store.specs.Store.{Store, sound, live, byteAt, readAt, written, touched, absentOf}
 use Rattle.mmu.specs.Walk.{physical, entriesRead, Alike}
 use Rattle.mmu.specs.Calls.{byteOf, writeOutcome, writeStore}
 use Rattle.mmu.specs.Parts.{Fits}
-use Rattle.mmu.proofs.Fill.{tab-ext, tab-getD}
-use Rattle.mmu.proofs.Read.{sound-true}
-use Rattle.mmu.proofs.Growth.{Still, still, written-in, written-out, written-count, written-number, written-keeps}
+use Rattle.runs.proofs.Filled.{tab-ext, tab-getD}
+use Rattle.store.proofs.Read.{sound-true}
+use Rattle.store.proofs.Growth.{Still, still, written-in, written-out, written-count, written-number, written-keeps}
 use Rattle.mmu.proofs.Answers.{accepts-only, accepted-fits, store-done}
 use Rattle.mmu.proofs.Walked.{walk-same, entries-three}
 

@@ -1,11 +1,5 @@
-pub mod Seek
-pub mod Fill
-pub mod Read
-pub mod Slot
-pub mod Growth
 pub mod Turns
 pub mod Walked
-pub mod View
 pub mod Answers
 pub mod Laws
 pub mod History

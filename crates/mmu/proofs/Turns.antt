@@ -1,17 +1,20 @@
--- One turn of each loop over pages: where the access stands then, and how a part joins those before it, for a read, for a write and for the count of absent pages.
--- The idea: a part is `filled` or `written` from the function "byte k of the access", so that parts end to end are one (Fill.filled-add, Slot.written-add).
-use mathlib.Core.Path.{_≡_, refl, ap, _∙_}
+-- One turn of each loop over pages: where the access stands then, and how a part joins those before it, for a read and for a write;
+-- and a write within one page that has a slot, which is one part.
+-- The idea: a part is `filled` or `written` from the function "byte k of the access", so that parts end to end are one (runs: Filled.filled-add, Slot.written-add).
+use mathlib.Core.Path.{_≡_, refl, sym, ap, _∙_}
 use mathlib.Core.List.{List}
-use Prim.Native.Nat.{ℕ, zero, suc, _+_, _-_, _*_, _/_, _%_, _<_, _≤_}
+use Prim.Native.Nat.{ℕ, suc, _+_, _-_, _*_, _/_, _%_, _<_, _≤_}
 use native.Mathlib.Nat.{zero-add, add-assoc}
 use native.Mathlib.Omega.{arith}
 use lib.ListN.{length}
-use Rattle.mmu.specs.Store.{Store, live, foundIn, lack, readAt, filled, written, pagesFrom, touched, absentOf}
+use Rattle.runs.specs.Runs.{filled, bytesOf}
+use Rattle.store.specs.Store.{Store, storeOf, live, foundIn, bytesFrom, readAt, taken, written, touched, absentOf}
+use Rattle.store.specs.declared.Found.the-variants.{At, Nothing}
 use Rattle.mmu.specs.Calls.{byteOf}
-use Rattle.mmu.specs.Parts.{Fits, Ready, Part, Reached, bytesOf, bytesFrom}
-use Rattle.mmu.proofs.Fill.{filled-ext, filled-add, filled-all}
-use Rattle.mmu.proofs.Slot.{written-add}
-use Rattle.mmu.proofs.Growth.{written-count, absent-upto, room-at, still}
+use Rattle.mmu.specs.Parts.{Fits, Ready, Part, Reached}
+use Rattle.runs.proofs.Filled.{filled-ext, filled-add, filled-all}
+use Rattle.store.proofs.Slot.{room-missing, written-here, written-missing, written-add}
+use Rattle.store.proofs.Growth.{written-count, absent-upto, room-at, still}
 
 -- ---- where an access stands, page by page
 pub reached-first : (p len : ℕ) → Reached p len (p / 4096) (p % 4096) 0
@@ -38,21 +41,30 @@ pub read-end : (s : Store) (p : ℕ) (out₀ o : List ℕ) (done : ℕ) → done
 unfolding readAt
 read-end s p out₀ o done e eo = eo ∙ rw e (filled-all out₀ (bytesFrom s p) (length out₀) refl)
 
--- ---- the count of absent pages
-pub touched-pages : (p n : ℕ) → 1 ≤ n → touched p n ≡ pagesFrom (p / 4096) ((p % 4096 + n - 1) / 4096 + 1)
-unfolding touched
-touched-pages p zero h = absurd (omega arith)
-touched-pages p (suc m) h = ap (pagesFrom (p / 4096)) (omega arith)
+-- ---- a write within one page that has a slot is one run of bytes
+pub part-whole : (s : Store) (p i n : ℕ) (d b : List ℕ) → foundIn (live s) (p / 4096) ≡ At i → p % 4096 + n ≤ 4096
+    → b ≡ filled (s .bytes) (4096 * i + p % 4096) (bytesOf d 0) n → storeOf (s .dir) b (s .used) ≡ written s p (byteOf d) n
+part-whole s p i n d b e h eb =
+    let q : 4096 * (p / 4096) + p % 4096 ≡ p = omega arith in
+    let same = filled-ext (s .bytes) (4096 * i + p % 4096) (bytesOf d 0) (byteOf d) n (λ k lt. rw (zero-add k)) in
+    ap (λ (l : List ℕ). storeOf (s .dir) l (s .used)) (eb ∙ same)
+    ∙ sym (written-here s (p / 4096) i (p % 4096) (byteOf d) n e h)
+    ∙ ap (λ (x : ℕ). written s x (byteOf d) n) q
 
-pub pages-turn : (l : List ℕ) (g left : ℕ) → 0 < left → absentOf l (pagesFrom g left) ≡ lack (foundIn l g) + absentOf l (pagesFrom (g + 1) (left - 1))
-unfolding pagesFrom absentOf
-pages-turn l g zero h = absurd (omega arith)
-pages-turn l g (suc k) h = let e : suc k - 1 ≡ k = omega arith in rw e
+-- ---- what `write_part` asks and gives
+module _ (s : Store) (g off n from len : ℕ) (r : Ready s g off n from len) where
+  pub part-at : (i : ℕ) (u : ℕ → ℕ) (b : List ℕ) → foundIn (live s) g ≡ At i → b ≡ filled (s .bytes) (4096 * i + off) u n
+      → storeOf (s .dir) b (s .used) ≡ written s (4096 * g + off) u n
+  part-at i u b e eb = ap (λ (l : List ℕ). storeOf (s .dir) l (s .used)) eb ∙ sym (written-here s g i off u n e (r .inside))
 
-pub pages-none : (l : List ℕ) (g left : ℕ) → left ≡ 0 → absentOf l (pagesFrom g left) ≡ 0
-pages-none l g left e = rw e (unfold pagesFrom absentOf in refl)
+  pub part-new : (u : ℕ → ℕ) (t : Store) (b : List ℕ) → foundIn (live s) g ≡ Nothing → t ≡ taken s g → b ≡ filled (t .bytes) (4096 * s .used + off) u n
+      → storeOf (t .dir) b (t .used) ≡ written s (4096 * g + off) u n
+  part-new u t b e et eb =
+      ap (λ (l : List ℕ). storeOf (t .dir) l (t .used)) eb
+      ∙ ap (λ (x : Store). storeOf (x .dir) (filled (x .bytes) (4096 * s .used + off) u n) (x .used)) et
+      ∙ sym (written-missing s (r .sound) g off u n e (room-missing s (r .sound) g (r .room) e) (r .some) (r .inside))
 
--- ---- a write
+-- ---- a write, part by part
 -- there is room for the part of the page that the write has reached
 pub ready-part : (s : Store) (p : ℕ) (f : ℕ → ℕ) (len g off done n : ℕ) → Fits s p len → Reached p len g off done → done < len → Part off (len - done) n
     → Ready (written s p f done) g off n done len

@@ -7,9 +7,9 @@ use lib.Dec.{eqb}
 use lib.ListN.{length}
 use borrow.Author.Tests.{eq-eqb, ne-eqb}
 use Rattle.utils.specs.Bytes.{fromBytes}
-use Rattle.mmu.specs.Store.{Store, byteAt, readAt}
+use Rattle.store.specs.Store.{Store, byteAt, readAt}
 use Rattle.mmu.specs.Walk.{entryPlace, wordAt, nextTable, walked, physical, entriesRead, Alike}
-use Rattle.mmu.proofs.Fill.{tab-ext}
+use Rattle.runs.proofs.Filled.{tab-ext}
 
 pub walked-end : (s : Store) (l t a : ℕ) → l ≡ 0 → (t + a % 2 ^ 21) % 2 ^ 64 ≡ walked s l t a
 walked-end s l t a z = rw z (unfold walked in refl)

@@ -1,16 +1,14 @@
 -- What the public calls owe: each answer's number, the lent bytes afterwards, the store, and what is shown on the screen. Written from 01, "Refusal numbers" and
 -- "Addresses, pages, walk"; every contract is an equation with one of these, or a record of such equations (`Wrote`), so that no two outcomes satisfy it.
 use mathlib.Core.Path.{_≡_}
-use mathlib.Core.Bool.{Bool, true, cond, _&&_}
+use mathlib.Core.Bool.{Bool, cond, _&&_}
 use mathlib.Core.List.{List, [], _∷_}
-use Prim.Native.Nat.{ℕ, _*_, _%_}
+use Prim.Native.Nat.{ℕ, _%_}
 use lib.Dec.{leb, eqb}
-use lib.ListN.{length, getD, take, drop}
+use lib.ListN.{length, getD}
 use Rattle.utils.specs.Outcome.{Outcome, gives, refuses, accepted}
-use Rattle.mmu.specs.Store.{Store, sound, live, unused, foundIn, readAt, written, touched, absentOf}
+use Rattle.store.specs.Store.{Store, sound, live, unused, readAt, written, touched, absentOf}
 use Rattle.mmu.specs.Walk.{physical}
-use Rattle.mmu.specs.declared.Found.{Found}
-use Rattle.mmu.specs.declared.Found.the-variants.{At, Nothing}
 use Rattle.mmu.specs.declared.Refusal.{Refusal}
 use Rattle.mmu.specs.declared.Refusal.the-variants.{BadStore, TooLong, NoRoom}
 use Rattle.mmu.specs.declared.Answer.{Answer}
@@ -61,30 +59,8 @@ shownAt p (b ∷ bs) = cond (cell p) (Byte b) Dark
 unfoldable pub shownOf : Store → ℕ → List ℕ → Shown
 shownOf s p d = cond (accepted (writeOutcome s p (length d))) (shownAt p d) Dark
 
--- all that a write at address a owes: "Only an access's first byte is translated; the rest follow physically"
-pub record Wrote (s t : Store) (cr3 a : ℕ) (d : List ℕ) (r : Answer) (e : Shown) : Type 0 where
-  pub answer : outcomeOf r ≡ writeOutcome s (physical s cr3 a) (length d)
-  pub shown : e ≡ shownOf s (physical s cr3 a) d
-  pub store : t ≡ writeStore s (physical s cr3 a) d
-
--- "A page view shows one page": refusal 4 also where the lent page "isn't 4,096 zeros"
-abbrev pub allZero : List ℕ → Bool
-allZero [] = true
-allZero (x ∷ xs) = eqb x 0 && allZero xs
-
-unfoldable pub zeroPage : List ℕ → Bool
-zeroPage z = eqb (length z) 4096 && allZero z
-
--- "the bytes come from the store, or from a lent page of zeros if it is absent"
-abbrev pub viewIn : List ℕ → List ℕ → Found → List ℕ
-viewIn b z (At i) = take 4096 (drop (4096 * i) b)
-viewIn b z Nothing = z
-
--- a refused view is "an empty part", and no other is
-unfoldable pub viewOf : Store → List ℕ → ℕ → List ℕ
-viewOf s z g = cond (sound s && zeroPage z) (viewIn (s .bytes) z (foundIn (live s) g)) []
-
--- its number and values: the empty part is refusal 4
-abbrev pub viewOutcome : List ℕ → Outcome ℕ
-viewOutcome [] = refuses 4
-viewOutcome (b ∷ bs) = gives (b ∷ bs)
+-- all that a write at physical p owes: "Only an access's first byte is translated; the rest follow physically"
+pub record Wrote (s t : Store) (p : ℕ) (d : List ℕ) (r : Answer) (e : Shown) : Type 0 where
+  pub answer : outcomeOf r ≡ writeOutcome s p (length d)
+  pub shown : e ≡ shownOf s p d
+  pub store : t ≡ writeStore s p d

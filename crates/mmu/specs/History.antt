@@ -7,7 +7,7 @@ use Prim.Native.Nat.{ℕ, _+_, _-_}
 use lib.Dec.{ltb, leb}
 use lib.ListN.{length, getD}
 use Rattle.utils.specs.Outcome.{gives}
-use Rattle.mmu.specs.Store.{Store}
+use Rattle.store.specs.Store.{Store}
 use Rattle.mmu.specs.Calls.{writeOutcome, writeStore}
 
 -- a write of bytes at a physical place

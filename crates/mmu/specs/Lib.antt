@@ -1,4 +1,3 @@
-pub mod Store
 pub mod Walk
 pub mod Calls
 pub mod Parts

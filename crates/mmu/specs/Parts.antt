@@ -1,33 +1,13 @@
 -- What only the contracts and loops of private functions cite: a reader of the public contracts needs none of it.
 use mathlib.Core.Path.{_≡_}
-use mathlib.Core.List.{List}
 use Prim.Native.Nat.{ℕ, _+_, _*_, _≤_, _<_}
-use lib.ListN.{length, getD}
+use lib.ListN.{length}
+use Rattle.store.specs.Store.{Store, live, touched, absentOf}
+use Rattle.store.specs.Facts.{Sound, Room}
 use Rattle.mmu.specs.declared.Refusal.{Refusal}
 use Rattle.mmu.specs.declared.Answer.the-variants.{Refused}
 use Rattle.mmu.specs.declared.Shown.the-variants.{Nothing as Dark}
 use Rattle.mmu.specs.declared.Written.{Written}
-use Rattle.mmu.specs.Store.{Store, byteAt, live, foundIn, lack, touched, absentOf}
-
--- `sound` as facts
-pub record Sound (s : Store) : Type 0 where
-  pub small : length (s .dir) ≤ 65536
-  pub fits : s .used ≤ length (s .dir)
-  pub sized : length (s .bytes) ≡ 4096 * length (s .dir)
-
--- what `filled` takes its bytes from: a list from a place on; nothing; the store from physical p on
-abbrev pub bytesOf : List ℕ → ℕ → ℕ → ℕ
-bytesOf l from k = getD l (from + k) 0
-
-abbrev pub noBytes : ℕ → ℕ
-noBytes k = 0
-
-abbrev pub bytesFrom : Store → ℕ → ℕ → ℕ
-bytesFrom s p k = byteAt s (p + k)
-
--- page g has a slot, or there is one for it
-abbrev pub Room : Store → ℕ → Type 0
-Room s g = s .used + lack (foundIn (live s) g) ≤ length (s .dir)
 
 -- what one page's part of a write starts from: n bytes, at least one, within the page and within the len given
 pub record Ready (s : Store) (g off n from len : ℕ) : Type 0 where

@@ -7,7 +7,7 @@ use lib.Dec.{eqb}
 use lib.ListN.{length, getD}
 use Rattle.utils.specs.Word.{cut}
 use Rattle.utils.specs.Bytes.{fromBytes}
-use Rattle.mmu.specs.Store.{Store, byteAt, readAt}
+use Rattle.store.specs.Store.{Store, byteAt, readAt}
 
 -- "the 9-bit index at bit 39, then 30, then 21; eight bytes at table + 8 × index": at level 3, 2, 1; the sum is modulo 2^64
 unfoldable pub entryPlace : ℕ → ℕ → ℕ → ℕ

@@ -1,24 +1,27 @@
-// Memory: the bounded store of pages, reads, writes, the walk from an address to a physical one, and the page view (src/mmu.rs of the Rust).
-// The crate knows numbers and lent slices only: `machine_state`, above it, owns CR3 and passes it in; `utils`, below it, knows words and bytes.
-// It carries document 01, "Addresses, pages, walk", and refusals 4, 5 and 6 of "Refusal numbers". Each public call takes every input, and
-// its contract (specs/Calls.antt) fixes the answer, the count of slots in use, what is shown and every lent byte, refused or not.
+// Memory: reads and writes at an address, and the walk from an address to a physical one (src/mmu.rs of the Rust).
+// The crate knows numbers and lent slices only: `machine_state`, above it, owns CR3 and passes it in; below it, `store` says what the lent slices
+// are and searches the directory, `runs` moves bytes, `utils` knows words.
+// It carries document 01, "Addresses, pages, walk", but for the store itself and the page view, and refusals 4, 5 and 6 of "Refusal numbers". Each
+// public call takes every input, and its contract (specs/Calls.antt) fixes the answer, the count of slots in use, what is shown and every lent byte,
+// refused or not.
 ghost use mathlib.Core.Path.{_≡_};
-ghost use Prim.Native.Nat.{_+_, _*_, _≤_, _<_};
+ghost use Prim.Native.Nat.{_≤_};
 ghost use lib.ListN.{length};
-ghost use Rattle.mmu.specs.Store.{storeOf};
+ghost use Rattle.store.specs.Store.{storeOf};
+ghost use Rattle.store.specs.Facts.{Sound};
+ghost use Rattle.mmu.specs.Walk.{physical};
 ghost use Rattle.mmu.specs.Parts.{RefusedFor};
-ghost use Rattle.mmu.specs.Calls.{outcomeOf, readOutcome, readOut, shownAt, Wrote, viewOf};
+ghost use Rattle.mmu.specs.Calls.{outcomeOf, readOutcome, readOut, shownAt, Wrote};
 
-mod store; // store.rt: what a store is, the search of its directory, and its slots
 mod run; // run.rt: reads and writes of physical bytes, page by page
 mod walk; // walk.rt: from an address to a physical one
 
-use run::count_absent;
 use run::mem_read_phys;
 use run::mem_write_phys;
-use store::find_page;
+use store::Found;
+use store::count_absent;
 use store::is_store;
-use store::is_zero_page;
+use store::slot_of;
 use walk::translate_virtual_to_physical_address;
 
 // 01's refusals 4, 5 and 6.
@@ -43,12 +46,6 @@ pub struct Written {
     pub answer: Answer,
     pub used: usize,
     pub shown: Shown,
-}
-
-// The slot of a page.
-enum Found {
-    At(usize),
-    Nothing,
 }
 
 // The bytes at an address fill `out`. The order is 01's: 4, then 5; then length 0 is done, with no walk.
@@ -87,7 +84,7 @@ pub fn mem_write(
     used: usize,
 ) -> Written
     ensures { λ r. ⌜ Wrote (storeOf (now (dir .entry)) (now (bytes .entry)) used) (storeOf (now (dir .exit)) (now (bytes .exit)) (r .used))
-        cr3 address (now («data» .entry)) (r .answer) (r .shown) ⌝ }
+        (physical (storeOf (now (dir .entry)) (now (bytes .entry)) used) cr3 address) (now («data» .entry)) (r .answer) (r .shown) ⌝ }
 {
     if !is_store(dir, bytes, used) {
         return refused(Refusal::BadStore, used);
@@ -103,6 +100,38 @@ pub fn mem_write(
         };
     }
     let p = translate_virtual_to_physical_address(cr3, address, dir, bytes, used);
+    write_at(p, data, dir, bytes, used)
+}
+
+// `data`, 1 to 4,096 bytes, goes to the bytes from physical p on. Within one page that has a slot it is copied at once, for no slot is wanted:
+// the directory is searched once.
+fn write_at(p: u64, data: &[u8], dir: &mut [u64], bytes: &mut [u8], used: usize) -> Written
+    requires { ⌜ Sound (storeOf (now dir) (now bytes) used) × (1 ≤ length (now «data»)) × (length (now «data») ≤ 4096) ⌝ }
+    ensures { λ r. ⌜ Wrote (storeOf (now (dir .entry)) (now (bytes .entry)) used) (storeOf (now (dir .exit)) (now (bytes .exit)) (r .used))
+        p (now («data» .entry)) (r .answer) (r .shown) ⌝ }
+{
+    let found = slot_of(p, data.len(), dir, used);
+    match found {
+        Found::At(i) => {
+            let off = (p % 4096) as usize;
+            runs::copy(bytes, 4096 * i + off, data, 0, data.len());
+            let shown = shown_at(p, data);
+            Written {
+                answer: Answer::Done,
+                used,
+                shown,
+            }
+        }
+        Found::Nothing => write_pages(p, data, dir, bytes, used),
+    }
+}
+
+// The same, page by page: the absent pages are counted first, for refusal 6.
+fn write_pages(p: u64, data: &[u8], dir: &mut [u64], bytes: &mut [u8], used: usize) -> Written
+    requires { ⌜ Sound (storeOf (now dir) (now bytes) used) × (1 ≤ length (now «data»)) × (length (now «data») ≤ 4096) ⌝ }
+    ensures { λ r. ⌜ Wrote (storeOf (now (dir .entry)) (now (bytes .entry)) used) (storeOf (now (dir .exit)) (now (bytes .exit)) (r .used))
+        p (now («data» .entry)) (r .answer) (r .shown) ⌝ }
+{
     let absent = count_absent(p, data.len(), dir, used);
     if dir.len() - used < absent {
         return refused(Refusal::NoRoom, used);
@@ -142,31 +171,4 @@ fn shown_at(p: u64, data: &[u8]) -> Shown
         return Shown::Nothing;
     }
     Shown::Byte(data[0])
-}
-
-// One page: a part of the store's bytes, or the lent page of zeros if it is absent; an empty part is refusal 4.
-pub fn page_view<'a>(
-    page: u64,
-    dir: &[u64],
-    bytes: &'a [u8],
-    used: usize,
-    zeros: &'a [u8],
-) -> &'a [u8]
-    ensures { λ r. ⌜ now r ≡ viewOf (storeOf (now (dir .entry)) (now (bytes .entry)) used) (now (zeros .entry)) page ⌝ }
-{
-    if !is_store(dir, bytes, used) {
-        return &zeros[0..0];
-    }
-    if !is_zero_page(zeros) {
-        return &zeros[0..0];
-    }
-    let found = find_page(dir, used, page);
-    match found {
-        Found::At(i) => {
-            let from = 4096 * i;
-            let to = from + 4096;
-            &bytes[from..to]
-        }
-        Found::Nothing => zeros,
-    }
 }

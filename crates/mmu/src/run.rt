@@ -2,16 +2,14 @@
 // The page number only grows: after page 2^52 - 1 comes page 2^52 (01: "without wrap").
 ghost use mathlib.Core.Path.{_≡_};
 ghost use Prim.Native.Nat.{_+_, _*_, _≤_, _<_};
-ghost use lib.ListN.{length, take};
-ghost use Rattle.mmu.specs.Store.{storeOf, filled, readAt, written, touched, absentOf};
+ghost use lib.ListN.{length};
+ghost use Rattle.runs.specs.Runs.{filled, bytesOf};
+ghost use Rattle.store.specs.Store.{storeOf, bytesFrom, readAt, taken, written};
+ghost use Rattle.store.specs.Facts.{Sound};
 ghost use Rattle.mmu.specs.Calls.{byteOf};
-ghost use Rattle.mmu.specs.Parts.{Sound, bytesOf, bytesFrom, Ready, Fits, Part};
-use super::Found;
-use super::store::clear;
-use super::store::copy;
-use super::store::find_page;
-use super::store::lacking;
-use super::store::take_slot;
+ghost use Rattle.mmu.specs.Parts.{Ready, Fits, Part};
+use store::Found;
+use store::find_page;
 
 // How many bytes of an access lie in the page it has reached: to the page's end, or all that are left.
 fn part_length(off: usize, left: usize) -> usize
@@ -42,8 +40,12 @@ fn read_part(
 {
     let found = find_page(dir, used, page);
     match found {
-        Found::At(i) => copy(out, at, bytes, 4096 * i + off, n),
-        Found::Nothing => clear(out, at, n),
+        Found::At(i) => {
+            runs::copy(out, at, bytes, 4096 * i + off, n);
+        }
+        Found::Nothing => {
+            runs::fill(out, at, n, 0);
+        }
     }
 }
 
@@ -64,21 +66,14 @@ pub(crate) fn mem_read_phys(p: u64, out: &mut [u8], dir: &[u64], bytes: &[u8], u
     }
 }
 
-// How many of the pages that n bytes from physical p on touch are absent.
-pub(crate) fn count_absent(p: u64, n: usize, dir: &[u64], used: usize) -> usize
-    requires { ⌜ (1 ≤ n) × (n ≤ 4096) ⌝ }
-    ensures { λ r. ⌜ r ≡ absentOf (take used (now (dir .entry))) (touched p n) ⌝ }
+// An absent page takes the slot at the end of those in use, cleared: stale bytes must not show.
+fn take_slot(page: u64, dir: &mut [u64], bytes: &mut [u8], used: usize)
+    requires { ⌜ Sound (storeOf (now dir) (now bytes) used) × (used < length (now dir)) ⌝ }
+    ensures { λ _. ⌜ storeOf (now (dir .exit)) (now (bytes .exit)) (used + 1)
+        ≡ taken (storeOf (now (dir .entry)) (now (bytes .entry)) used) page ⌝ }
 {
-    let off = (p % 4096) as usize;
-    let mut page = p / 4096;
-    let mut left = (off + n - 1) / 4096 + 1;
-    let mut absent: usize = 0;
-    while 0 < left {
-        absent += lacking(dir, used, page);
-        page += 1;
-        left -= 1;
-    }
-    absent
+    dir[used] = page;
+    runs::fill(bytes, 4096 * used, 4096, 0);
 }
 
 // n bytes of data from `from` on go into one page from off on; an absent page takes a slot. Returns the slots in use.
@@ -99,12 +94,12 @@ fn write_part(
     let found = find_page(dir, used, page);
     match found {
         Found::At(i) => {
-            copy(bytes, 4096 * i + off, data, from, n);
+            runs::copy(bytes, 4096 * i + off, data, from, n);
             used
         }
         Found::Nothing => {
             take_slot(page, dir, bytes, used);
-            copy(bytes, 4096 * used + off, data, from, n);
+            runs::copy(bytes, 4096 * used + off, data, from, n);
             used + 1
         }
     }

@@ -1,9 +1,9 @@
 // The walk of 01: three levels down from the table that CR3 names, the same step at each.
 ghost use mathlib.Core.Path.{_≡_};
 ghost use Prim.Native.Nat.{_≤_};
-ghost use Rattle.mmu.specs.Store.{storeOf};
+ghost use Rattle.store.specs.Store.{storeOf};
+ghost use Rattle.store.specs.Facts.{Sound};
 ghost use Rattle.mmu.specs.Walk.{entryPlace, wordAt, nextTable, walked, physical};
-ghost use Rattle.mmu.specs.Parts.{Sound};
 use super::run::mem_read_phys;
 
 // Where the entry for the address stands in the table: the 9-bit index is at bit 39, 30, 21 for level 3, 2, 1.

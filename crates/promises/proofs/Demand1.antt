@@ -17,7 +17,7 @@ use Rattle.instruction_set.specs.declared.SomeRegister.the-variants as reg
 use Rattle.instruction_set.specs.declared.SomeScale.the-variants as by
 use Rattle.fields.specs.Parts.{memoryValue}
 use Rattle.mmu.specs.Calls.{readOutcome, readOut, writeOutcome, writeStore, shownOf}
-use Rattle.mmu.specs.Store.{Store, sound, live, unused, touched, absentOf}
+use Rattle.store.specs.Store.{Store, sound, live, unused, touched, absentOf}
 use Rattle.mmu.specs.Walk.{physical}
 use Rattle.machine_state.specs.Address.{addressOf}
 use Rattle.machine_state.specs.Answers.{Value, word, After}

@@ -18,7 +18,7 @@ use Rattle.instruction_set.specs.declared.Register.{Register}
 use Rattle.fields.specs.FlagBits.{bitSet, flagOf, putFlag}
 use Rattle.fields.proofs.FlagLaws.{flag-back, bits-kept}
 use Rattle.mmu.specs.Calls.{readOutcome, readOut, writeOutcome, writeStore}
-use Rattle.mmu.specs.Store.{Store, sound, readAt, byteAt}
+use Rattle.store.specs.Store.{Store, sound, readAt, byteAt}
 use Rattle.mmu.specs.Walk.{physical}
 use Rattle.mmu.proofs.Answers.{read-done, out-done, write-done, accepts-only}
 use Rattle.mmu.specs.History.{Change, after, lastByte}

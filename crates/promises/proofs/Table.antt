@@ -16,16 +16,17 @@ use Rattle.instruction_set.specs.declared.Register.the-variants.{RAX, RBX, RSP,
 use Rattle.fields.specs.FlagBits.{bitSet, putFlag, evenOnes}
 use Rattle.fields.specs.Parts.{readOf, writeOf}
 use Rattle.mmu.specs.Calls.{readOutcome, readOut, writeOutcome}
-use Rattle.mmu.specs.Store.{sound, seek, foundIn, byteAt, readAt, tabulate, pagesFrom, touched, absentOf}
+use Rattle.store.specs.Store.{sound, seek, foundIn, byteAt, readAt, pagesFrom, touched, absentOf}
+use Rattle.runs.specs.Runs.{tabulate}
 use Rattle.mmu.specs.Walk.{entryPlace, wordAt, nextTable, walked, physical}
 use Rattle.machine_state.specs.Address.{addressOf}
 use Rattle.machine_state.specs.Answers.{Value, word, After}
 use Rattle.machine_state.specs.Flagged.{computeFlags}
 use Rattle.machine_state.specs.Machine.{newMachine, readReg, writeReg}
 use Rattle.machine_state.specs.Memory.{valued, withValue, loaded, pushed, readMemory, writeMemory}
-use Rattle.exposed.specs.Exposed.{exposed}
-use Rattle.exposed.specs.Places.{reads, rewrites}
-use Rattle.exposed.specs.Rows.{readsOf, rewritesOf, inSpan, inSpans}
+use Rattle.rows.specs.Exposed.{exposed}
+use Rattle.rows.specs.Places.{reads, rewrites}
+use Rattle.rows.specs.Rows.{readsOf, rewritesOf, inSpan, inSpans}
 use Rattle.promises.specs.Table.{minus, rax, operand, valuesOf, flags, eighty, twoSlots, oneSlot, pageZero, tables, eight, afterPush, afterTop, placesOf, exposedOf, writing, reading, pushing, table, left, right}
 use Rattle.promises.proofs.Demand2.{reads-accepted, reads-back, others-stay, sound-after}
 

@@ -14,7 +14,7 @@ use Rattle.instruction_set.specs.Sizes.{bitOf}
 use Rattle.instruction_set.specs.declared.Flags.{Flags}
 use Rattle.instruction_set.specs.declared.Register.{Register}
 use Rattle.mmu.specs.History.{Change, lastByte}
-use Rattle.mmu.specs.Store.{Store, sound, live, unused, touched, absentOf, byteAt}
+use Rattle.store.specs.Store.{Store, sound, live, unused, touched, absentOf, byteAt}
 use Rattle.mmu.specs.Walk.{physical}
 use Rattle.machine_state.specs.Flagged.{flagIn, setFlag}
 use Rattle.machine_state.specs.Machine.{parentAt, readReg, writeReg}

@@ -1,12 +1,12 @@
--- Demand 3, "Forgotten readers", sentence by sentence. A place is exposed by 01's table (`exposed`, exposed/specs/Exposed.antt); a machine of Rattle has
--- 22 words below 2^64 and so on by its type (`Sound`, exposed/specs/Places.antt); what a call does is `step`, which `calls::perform` is proved to do.
+-- Demand 3, "Forgotten readers", sentence by sentence. A place is exposed by 01's table (`exposed`, rows/specs/Exposed.antt); a machine of Rattle has
+-- 22 words below 2^64 and so on by its type (`Sound`, rows/specs/Places.antt); what a call does is `step`, which `calls::perform` is proved to do.
 use mathlib.Core.Bool.{Bool, true, false}
 use mathlib.Core.List.{List, _++_, map}
 use mathlib.Core.Path.{_≡_}
 use Prim.Native.Nat.{ℕ, _<_, _≤_}
 use lib.ListN.{length, getD}
-use Rattle.exposed.specs.Exposed.{exposed, Exposes, Forgotten}
-use Rattle.exposed.specs.Places.{Act, State, Sound, place, reads, rewrites, does, storeIn, placeIn}
+use Rattle.rows.specs.Exposed.{exposed, Exposes, Forgotten}
+use Rattle.rows.specs.Places.{Act, State, Sound, place, reads, rewrites, does, storeIn, placeIn}
 use Rattle.exposed.specs.Reported.{reported}
 use Rattle.exposed.specs.declared.CallEntry.{CallEntry}
 

@@ -13,7 +13,7 @@ use Rattle.instruction_set.specs.declared.Register.the-variants.{RAX, RBX, RSP,
 use Rattle.instruction_set.specs.declared.SomeRegister.the-variants as reg
 use Rattle.instruction_set.specs.declared.SomeScale.the-variants as by
 use Rattle.fields.specs.FlagBits.{boolBit}
-use Rattle.mmu.specs.Store.{Store, storeOf, byteAt}
+use Rattle.store.specs.Store.{Store, storeOf, byteAt}
 use Rattle.mmu.specs.Walk.{physical}
 use Rattle.machine_state.specs.Address.{addressOf}
 use Rattle.machine_state.specs.Answers.{Value, word, truth, After}
@@ -22,8 +22,8 @@ use Rattle.machine_state.specs.Machine.{newMachine, readReg, writeReg}
 use Rattle.machine_state.specs.Memory.{loaded, pushed, writeMemory}
 use Rattle.machine_state.specs.declared.MachineState.{MachineState}
 use Rattle.calls.specs.declared.Call.the-variants.{ReadOperand, WriteOperand, Push}
-use Rattle.exposed.specs.Exposed.{exposed}
-use Rattle.exposed.specs.Places.{Act, reads, rewrites}
+use Rattle.rows.specs.Exposed.{exposed}
+use Rattle.rows.specs.Places.{Act, reads, rewrites}
 
 pub record Line : Type 0 where
   pub computed : List ℕ

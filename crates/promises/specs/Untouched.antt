@@ -3,7 +3,7 @@
 use mathlib.Core.List.{List, []}
 use mathlib.Core.Path.{_≡_}
 use Prim.Native.Nat.{ℕ}
-use Rattle.mmu.specs.Store.{Store}
+use Rattle.store.specs.Store.{Store}
 use Rattle.machine_state.specs.Answers.{After}
 use Rattle.machine_state.specs.declared.Event.the-variants.{Quiet}
 use Rattle.machine_state.specs.declared.MachineState.{MachineState}

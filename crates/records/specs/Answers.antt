@@ -10,18 +10,18 @@ use Rattle.instruction_set.specs.declared.SomeRegister.{SomeRegister}
 use Rattle.instruction_set.specs.declared.SomeRegister.the-variants as register
 use Rattle.instruction_set.specs.declared.SomeScale.{SomeScale}
 use Rattle.instruction_set.specs.declared.SomeScale.the-variants as scale
-use Rattle.mmu.specs.Store.{filled}
-use Rattle.records.specs.Numbers.{numberOf, eventKind, eventRegister, eventValue}
-use Rattle.records.specs.Words.{byteIn}
+use Rattle.machine_state.specs.declared.Event.{Event}
+use Rattle.runs.specs.Runs.{filled, laneIn}
+use Rattle.numbers.specs.Numbers.{numberOf}
+use Rattle.records.specs.Events.{eventKind, eventRegister, eventValue}
 use Rattle.records.specs.declared.Reply.{Reply}
 
 -- "refusal; what the value is; the value; event; its register; its value; slots in use; bytes that follow"
-abbrev pub replyWords : Reply → List ℕ
-replyWords r =
-    r .refusal ∷ r .shape ∷ r .value ∷ eventKind (r .event) ∷ eventRegister (r .event) ∷ eventValue (r .event) ∷ r .used ∷ r .given ∷ []
+abbrev pub replyWords : Reply → Event → ℕ → List ℕ
+replyWords r e u = r .refusal ∷ r .shape ∷ r .value ∷ eventKind e ∷ eventRegister e ∷ eventValue e ∷ u ∷ r .given ∷ []
 
-unfoldable pub encoded : Reply → List ℕ
-encoded r = filled (replicate 64 0) 0 (byteIn (replyWords r)) 64
+unfoldable pub encoded : Reply → Event → ℕ → List ℕ
+encoded r e u = filled (replicate 64 0) 0 (laneIn (replyWords r e u)) 64
 
 -- "the register's number plus 1", or 0 for absent; likewise a scale
 abbrev pub partNumber : SomeRegister → ℕ

@@ -22,7 +22,7 @@ use Rattle.machine_state.specs.declared.Event.{Event}
 use Rattle.machine_state.specs.declared.Event.the-variants as event
 use Rattle.calls.specs.declared.Call.{Call}
 use Rattle.calls.specs.declared.Call.the-variants as call
-use Rattle.records.specs.Numbers.{numberOf, sizeNumber, flagNumber}
+use Rattle.numbers.specs.Numbers.{numberOf, sizeNumber, flagNumber}
 use Rattle.records.specs.declared.items.Explicit.{Explicit}
 use Rattle.records.specs.declared.items.Explicit.the-variants as explicit
 use Rattle.records.specs.declared.items.Opcode.{Opcode}
@@ -31,16 +31,10 @@ use Rattle.records.specs.declared.items.Factor.{Factor}
 use Rattle.records.specs.declared.items.Factor.the-variants as factor
 use Rattle.records.specs.declared.items.Far.{Far}
 use Rattle.records.specs.declared.items.Far.the-variants as far
-use Rattle.records.specs.declared.Access.{Access}
-use Rattle.records.specs.declared.Access.the-variants as access
 use Rattle.records.specs.declared.Header.{Header}
 use Rattle.records.specs.declared.items.Operand.{Operand}
 use Rattle.records.specs.declared.items.Operand.the-variants as operand
 use Rattle.records.specs.declared.OperandWords.{OperandWords}
-use Rattle.records.specs.declared.Show.{Show}
-use Rattle.records.specs.declared.Show.the-variants as show
-use Rattle.records.specs.declared.Told.{Told}
-use Rattle.records.specs.declared.Told.the-variants as told
 use Rattle.records.specs.declared.items.Part.{Part}
 use Rattle.records.specs.declared.items.Part.the-variants as part
 use Rattle.records.specs.declared.items.SomeArguments.{SomeArguments}
@@ -49,8 +43,6 @@ use Rattle.records.specs.declared.items.SomeCall.{SomeCall}
 use Rattle.records.specs.declared.items.SomeCall.the-variants as decoded
 use Rattle.records.specs.declared.items.SomeEvent.{SomeEvent}
 use Rattle.records.specs.declared.items.SomeEvent.the-variants as occurred
-use Rattle.records.specs.declared.numbers.SomeFlag.{SomeFlag}
-use Rattle.records.specs.declared.numbers.SomeFlag.the-variants as flag
 
 -- "Registers and scales are given by their number plus 1, and 0 says that they are absent"
 abbrev pub registerMeans : ℕ → SomeRegister → Type 0
@@ -113,43 +105,7 @@ eventMeans w event.Quiet = w .kind ≡ 0
 eventMeans w (event.Control r v) = (w .kind ≡ 1) × (w .base ≡ numberOf r + 1) × (w .value ≡ v)
 eventMeans w (event.Video b) = (w .kind ≡ 2) × (w .value ≡ b)
 
--- what is asked of an arguments record; what is shown or loaded; whose text is asked for
-abbrev pub accessMeans : Header → Access → Type 0
-accessMeans h access.Malformed = Unit
-accessMeans h (access.Size a) = (h .kind ≡ 16) × ArgumentsMean h (h .b) (h .c) a
-accessMeans h (access.OneArgument a) = (h .kind ≡ 17) × ArgumentsMean h (h .b) (h .c) a
-accessMeans h (access.TwoArguments a) = (h .kind ≡ 18) × ArgumentsMean h (h .b) (h .c) a
-
-abbrev pub showMeans : Header → Show → Type 0
-showMeans h show.Malformed = Unit
-showMeans h (show.View p f n z l) = (h .kind ≡ 20) × (h .a ≡ p) × (h .b ≡ f) × (h .c ≡ n) × (h .first .base ≡ z) × (h .first .value ≡ l)
-showMeans h (show.Load x) = (h .kind ≡ 25) × (h .a ≡ x)
-showMeans h show.Machine = h .kind ≡ 26
-showMeans h show.Directory = h .kind ≡ 27
-showMeans h (show.Bytes f n) = (h .kind ≡ 28) × (h .a ≡ f) × (h .b ≡ n)
-
-abbrev pub toldMeans : Header → Told → Type 0
-toldMeans h told.Malformed = Unit
-toldMeans h (told.Operand a z) = (h .kind ≡ 32) × operandMeans (h .first) a × (h .size ≡ sizeNumber z)
-toldMeans h (told.Arguments a) = (h .kind ≡ 33) × ArgumentsMean h 0 0 a
-toldMeans h told.State = h .kind ≡ 34
-toldMeans h (told.Event e) = (h .kind ≡ 35) × eventMeans (h .first) e
-toldMeans h (told.Plain a) = (h .kind ≡ 36) × operandMeans (h .first) a
-toldMeans h (told.Register r) = (h .kind ≡ 37) × (h .first .kind ≡ 2) × (h .first .base ≡ numberOf r + 1)
-
 -- ---- what only private functions' contracts cite: what was found means the word, or nothing was
-abbrev pub placeMeans : ℕ → SomeRegister → Type 0
-placeMeans n register.Absent = Unit
-placeMeans n (register.Present r) = n ≡ numberOf r
-
-abbrev pub flagMeans : ℕ → SomeFlag → Type 0
-flagMeans n flag.Absent = Unit
-flagMeans n (flag.Present f) = n ≡ flagNumber f
-
-abbrev pub someSizeMeans : ℕ → SomeSize → Type 0
-someSizeMeans n size.Absent = Unit
-someSizeMeans n (size.Present z) = n ≡ sizeNumber z
-
 abbrev pub partMeans : ℕ → Part → Type 0
 partMeans n part.Malformed = Unit
 partMeans n (part.Is r) = registerMeans n r

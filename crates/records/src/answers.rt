@@ -1,17 +1,18 @@
 // From operands and replies to words.
 use super::Reply;
-use super::bytes::put_words;
-use super::numbers::event_kind;
-use super::numbers::event_register;
-use super::numbers::event_value;
-use super::numbers::register_number;
+use super::codes::event_kind;
+use super::codes::event_register;
+use super::codes::event_value;
 use instruction_set::InstructionArgument;
 use instruction_set::Register;
 use instruction_set::SomeRegister;
 use instruction_set::SomeScale;
+use machine_state::Event;
+use numbers::register_number;
+use runs::put_words;
 ghost use mathlib.Core.Path.{_≡_};
 ghost use Prim.Native.Nat.{_+_, _<_};
-ghost use Rattle.records.specs.Numbers.{numberOf};
+ghost use Rattle.numbers.specs.Numbers.{numberOf};
 ghost use Rattle.records.specs.Answers.{encoded, partNumber, scaleNumber, operandWords};
 
 // The number plus 1, or 0 for absent.
@@ -57,11 +58,10 @@ pub fn operand_words(argument: InstructionArgument) -> [u64; 5]
     }
 }
 
-// The eight words of an answer.
-pub fn encode(reply: Reply) -> [u8; 64]
-    ensures { λ r. ⌜ r ≡ encoded reply ⌝ }
+// The eight words of an answer, with the event and the count of slots in use.
+pub fn encode(reply: Reply, event: Event, used: usize) -> [u8; 64]
+    ensures { λ r. ⌜ r ≡ encoded reply event used ⌝ }
 {
-    let event = reply.event;
     let words = [
         reply.refusal,
         reply.shape,
@@ -69,7 +69,7 @@ pub fn encode(reply: Reply) -> [u8; 64]
         event_kind(event),
         event_register(event),
         event_value(event),
-        reply.used as u64,
+        used as u64,
         reply.given as u64,
     ];
     let mut out = [0u8; 64];

@@ -1,13 +1,6 @@
 // From words to operands, arguments records, events and calls. A number that names nothing makes the record malformed.
-use super::Access;
 use super::Header;
 use super::OperandWords;
-use super::Show;
-use super::Told;
-use super::numbers::SomeFlag;
-use super::numbers::flag_at;
-use super::numbers::register_at;
-use super::numbers::size_at;
 use calls::Call;
 use instruction_set::InstructionArgument;
 use instruction_set::InstructionArguments;
@@ -18,10 +11,14 @@ use instruction_set::SomeRegister;
 use instruction_set::SomeScale;
 use instruction_set::SomeSize;
 use machine_state::Event;
+use numbers::SomeFlag;
+use numbers::flag_at;
+use numbers::register_at;
+use numbers::size_at;
 ghost use mathlib.Core.Path.{_≡_};
 ghost use Prim.Native.Nat.{_≤_};
 ghost use Rattle.records.specs.Built.{argumentsOf, firstGiven, secondGiven, opcodeGiven, sizeGiven};
-ghost use Rattle.records.specs.Means.{partMeans, factorMeans, farMeans, explicitMeans, codeMeans, givenMeans, presentMeans, decodedMeans, builtMeans, occurredMeans, accessMeans, showMeans, toldMeans};
+ghost use Rattle.records.specs.Means.{partMeans, factorMeans, farMeans, explicitMeans, codeMeans, givenMeans, presentMeans, decodedMeans, builtMeans, occurredMeans};
 
 // A base or an index of a record, or a word that names none.
 pub(crate) enum Part {
@@ -59,12 +56,12 @@ pub enum SomeCall {
     Is(Call),
 }
 
-pub(crate) enum SomeArguments {
+pub enum SomeArguments {
     Malformed,
     Is(InstructionArguments),
 }
 
-pub(crate) enum SomeEvent {
+pub enum SomeEvent {
     Malformed,
     Is(Event),
 }
@@ -257,7 +254,7 @@ fn with_size(builder: InstructionArgumentsBuilder, size: SomeSize) -> Instructio
 }
 
 // The arguments record of a header, with the words of its two repeats: 0 or 1.
-fn decode_arguments(header: Header, equal: u64, not_equal: u64) -> SomeArguments
+pub fn decode_arguments(header: Header, equal: u64, not_equal: u64) -> SomeArguments
     ensures { λ r. ⌜ builtMeans header equal «not_equal» r ⌝ }
 {
     if 1 < equal {
@@ -286,7 +283,7 @@ fn decode_arguments(header: Header, equal: u64, not_equal: u64) -> SomeArguments
 }
 
 // The first operand, which must be given.
-fn given_operand(words: OperandWords) -> SomeArgument
+pub fn given_operand(words: OperandWords) -> SomeArgument
     ensures { λ r. ⌜ presentMeans words r ⌝ }
 {
     let operand = decode_operand(words);
@@ -432,7 +429,7 @@ fn video_event(words: OperandWords) -> SomeEvent
     })
 }
 
-fn decode_event(words: OperandWords) -> SomeEvent
+pub fn decode_event(words: OperandWords) -> SomeEvent
     ensures { λ r. ⌜ occurredMeans words r ⌝ }
 {
     let kind = words.kind;
@@ -441,133 +438,5 @@ fn decode_event(words: OperandWords) -> SomeEvent
         1 => control_event(words),
         2 => video_event(words),
         _ => SomeEvent::Malformed,
-    }
-}
-
-// The repeats do not show in the text: b and c are the buffer.
-fn arguments_text(header: Header) -> Told
-    requires { ⌜ header .kind ≡ 33 ⌝ }
-    ensures { λ r. ⌜ toldMeans header r ⌝ }
-{
-    let built = decode_arguments(header, 0, 0);
-    match built {
-        SomeArguments::Malformed => Told::Malformed,
-        SomeArguments::Is(arguments) => Told::Arguments { arguments },
-    }
-}
-
-fn operand_text(header: Header) -> Told
-    requires { ⌜ header .kind ≡ 32 ⌝ }
-    ensures { λ r. ⌜ toldMeans header r ⌝ }
-{
-    let operand = given_operand(header.first);
-    let SomeArgument::Present(argument) = operand else {
-        return Told::Malformed;
-    };
-    let found = size_at(header.size);
-    let SomeSize::Present(size) = found else {
-        return Told::Malformed;
-    };
-    Told::Operand { argument, size }
-}
-
-fn plain_text(header: Header) -> Told
-    requires { ⌜ header .kind ≡ 36 ⌝ }
-    ensures { λ r. ⌜ toldMeans header r ⌝ }
-{
-    let operand = given_operand(header.first);
-    match operand {
-        SomeArgument::Absent => Told::Malformed,
-        SomeArgument::Present(argument) => Told::Plain { argument },
-    }
-}
-
-fn register_text(header: Header) -> Told
-    requires { ⌜ header .kind ≡ 37 ⌝ }
-    ensures { λ r. ⌜ toldMeans header r ⌝ }
-{
-    let operand = given_operand(header.first);
-    let SomeArgument::Present(argument) = operand else {
-        return Told::Malformed;
-    };
-    let InstructionArgument::Register { register } = argument else {
-        return Told::Malformed;
-    };
-    Told::Register { register }
-}
-
-fn event_line(header: Header) -> Told
-    requires { ⌜ header .kind ≡ 35 ⌝ }
-    ensures { λ r. ⌜ toldMeans header r ⌝ }
-{
-    let found = decode_event(header.first);
-    match found {
-        SomeEvent::Malformed => Told::Malformed,
-        SomeEvent::Is(event) => Told::Event { event },
-    }
-}
-
-fn view(header: Header) -> Show
-    requires { ⌜ header .kind ≡ 20 ⌝ }
-    ensures { λ r. ⌜ showMeans header r ⌝ }
-{
-    let lent = header.first;
-    Show::View {
-        page: header.a,
-        from: header.b,
-        count: header.c,
-        zeros: lent.base,
-        last: lent.value,
-    }
-}
-
-// Whose text a record asks for, kinds 32 to 37.
-pub fn decode_told(header: Header) -> Told
-    ensures { λ r. ⌜ toldMeans header r ⌝ }
-{
-    let kind = header.kind;
-    match kind {
-        32 => operand_text(header),
-        33 => arguments_text(header),
-        34 => Told::State,
-        35 => event_line(header),
-        36 => plain_text(header),
-        37 => register_text(header),
-        _ => Told::Malformed,
-    }
-}
-
-// What is asked of an arguments record, kinds 16 to 18.
-pub fn decode_access(header: Header) -> Access
-    ensures { λ r. ⌜ accessMeans header r ⌝ }
-{
-    let built = decode_arguments(header, header.b, header.c);
-    let SomeArguments::Is(arguments) = built else {
-        return Access::Malformed;
-    };
-    let kind = header.kind;
-    match kind {
-        16 => Access::Size { arguments },
-        17 => Access::OneArgument { arguments },
-        18 => Access::TwoArguments { arguments },
-        _ => Access::Malformed,
-    }
-}
-
-// What is shown or loaded, kinds 20 to 28.
-pub fn decode_show(header: Header) -> Show
-    ensures { λ r. ⌜ showMeans header r ⌝ }
-{
-    let kind = header.kind;
-    match kind {
-        20 => view(header),
-        25 => Show::Load { at: header.a },
-        26 => Show::Machine,
-        27 => Show::Directory,
-        28 => Show::Bytes {
-            from: header.a,
-            count: header.b,
-        },
-        _ => Show::Malformed,
     }
 }

@@ -1,45 +1,31 @@
 // Calls as records of bytes (docs/FORMAT.md): a header of 16 words is decoded into what it asks for, and a reply is encoded as an answer of 8 words.
-// What is no record is malformed. Below are calls and text, whose calls the records ask for; above are session, which carries a record out, and
+// What is no record is malformed. Below are calls, which the records ask for, and numbers; above are session, which carries a record out, and
 // drive, a program that reads records and writes answers. So the machine can be compared with the Rust, call by call. No demand of document 01
 // rests on this crate.
-use calls::Call;
-use instruction_set::ArgumentSize;
-use instruction_set::InstructionArgument;
-use instruction_set::InstructionArguments;
-use instruction_set::Register;
-use machine_state::Event;
-use machine_state::MachineState;
+use runs::word_at;
 ghost use mathlib.Core.Path.{_≡_};
 ghost use Prim.Native.Nat.{_+_, _≤_};
 ghost use lib.ListN.{length};
 ghost use Rattle.records.specs.Words.{operandWordsAt, headerAt, headerIn};
 ghost use Rattle.records.specs.Answers.{encoded};
 
-mod bytes; // bytes.rt: words and runs of bytes within lent slices
-mod numbers; // numbers.rt: registers, sizes, flags, refusals and events by their numbers
+mod codes; // codes.rt: refusals and events as numbers
 mod items; // items.rt: from words to what they ask for
 mod answers; // answers.rt: from operands and replies to words
 
 pub use answers::encode;
 pub use answers::operand_words;
-pub use bytes::copy;
-pub use bytes::fill;
-pub use bytes::put_words;
-pub use bytes::take_words;
-pub use bytes::word_at;
+pub use codes::arguments_refusal;
+pub use codes::refusal;
+pub use items::SomeArguments;
 pub use items::SomeCall;
-pub use items::decode_access;
+pub use items::SomeEvent;
+pub use items::decode_arguments;
 pub use items::decode_call;
-pub use items::decode_show;
-pub use items::decode_told;
-pub use numbers::arguments_refusal;
-pub use numbers::refusal;
-pub use numbers::size_number;
-pub use numbers::text_refusal;
+pub use items::decode_event;
+pub use items::given_operand;
 
 pub const RESET: u64 = 24;
-
-pub const REPORT: u64 = 40;
 
 // The five words of an operand. Registers and scales are given by their number plus 1, and 0 says that they are absent.
 pub struct OperandWords {
@@ -62,67 +48,13 @@ pub struct Header {
     pub second: OperandWords,
 }
 
-// What is asked of an arguments record.
-pub enum Access {
-    Malformed,
-    Size { arguments: InstructionArguments },
-    OneArgument { arguments: InstructionArguments },
-    TwoArguments { arguments: InstructionArguments },
-}
-
-// What is shown, or loaded.
-pub enum Show {
-    Malformed,
-    View {
-        page: u64,
-        from: u64,
-        count: u64,
-        zeros: u64,
-        last: u64,
-    },
-    Load {
-        at: u64,
-    },
-    Machine,
-    Directory,
-    Bytes {
-        from: u64,
-        count: u64,
-    },
-}
-
-// Whose text is asked for.
-pub enum Told {
-    Malformed,
-    Operand {
-        argument: InstructionArgument,
-        size: ArgumentSize,
-    },
-    Arguments {
-        arguments: InstructionArguments,
-    },
-    State,
-    Event {
-        event: Event,
-    },
-    Plain {
-        argument: InstructionArgument,
-    },
-    Register {
-        register: Register,
-    },
-}
-
 // What a record answers. `shape` says what `value` is: 0 nothing, 1 a value, 2 a truth. The first `given` of the lent bytes belong to the answer.
 // Where the record is malformed, `formed` is false and there is no answer.
 pub struct Reply {
-    pub machine: MachineState,
-    pub used: usize,
     pub formed: bool,
     pub refusal: u64,
     pub shape: u64,
     pub value: u64,
-    pub event: Event,
     pub given: usize,
 }
 

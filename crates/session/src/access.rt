@@ -1,71 +1,71 @@
 // Size selection, one-argument and two-argument access of an arguments record.
-use super::malformed;
-use super::quiet;
-use super::show;
+use super::replies::none;
+use super::replies::refused;
+use super::replies::value;
+use super::show::words;
 use instruction_set::InstructionArguments;
 use instruction_set::OneArgument;
 use instruction_set::Size;
 use instruction_set::TwoArguments;
-use machine_state::MachineState;
-use records::Access;
+use records::Header;
 use records::Reply;
+use records::SomeArguments;
+ghost use mathlib.Core.Path.{_≡_};
+ghost use Rattle.instruction_set.specs.Arguments.{selectedSize, oneArgument, twoArguments};
+ghost use Rattle.session.specs.Replies.{replyOf};
+ghost use Rattle.session.specs.Accesses.{Accesses, OperandsGiven, numbered};
 
-fn size(arguments: InstructionArguments, machine: MachineState, used: usize) -> Reply {
+fn size(arguments: InstructionArguments) -> Reply
+    ensures { λ r. ⌜ r ≡ replyOf (numbered (selectedSize arguments)) 0 ⌝ }
+{
     let size = arguments.size();
     match size {
-        Size::Selected(chosen) => quiet(machine, used, 0, 1, records::size_number(chosen), 0),
-        Size::Refused(why) => quiet(machine, used, records::arguments_refusal(why), 0, 0, 0),
+        Size::Selected(chosen) => value(numbers::size_number(chosen), 0),
+        Size::Refused(why) => refused(records::arguments_refusal(why), 0),
     }
 }
 
-fn one(
-    arguments: InstructionArguments,
-    machine: MachineState,
-    lent: &mut [u8],
-    used: usize,
-) -> Reply {
+fn one(arguments: InstructionArguments, lent: &mut [u8]) -> Reply
+    ensures { λ r. ⌜ OperandsGiven (oneArgument arguments) (now (lent .entry)) r (now (lent .exit)) ⌝ }
+{
     let found = arguments.get_one_argument();
     match found {
         OneArgument::Argument(argument) => {
-            let words = records::operand_words(argument);
-            show::words(&words, machine, lent, used)
+            let five = records::operand_words(argument);
+            words(&five, lent)
         }
-        OneArgument::Refused(why) => {
-            quiet(machine, used, records::arguments_refusal(why), 0, 0, 0)
-        }
+        OneArgument::Refused(why) => refused(records::arguments_refusal(why), 0),
     }
 }
 
-fn two(
-    arguments: InstructionArguments,
-    machine: MachineState,
-    lent: &mut [u8],
-    used: usize,
-) -> Reply {
+fn two(arguments: InstructionArguments, lent: &mut [u8]) -> Reply
+    ensures { λ r. ⌜ OperandsGiven (twoArguments arguments) (now (lent .entry)) r (now (lent .exit)) ⌝ }
+{
     let found = arguments.get_two_arguments();
     match found {
         TwoArguments::Arguments(first, second) => {
             let x = records::operand_words(first);
             let y = records::operand_words(second);
-            let words = [x[0], x[1], x[2], x[3], x[4], y[0], y[1], y[2], y[3], y[4]];
-            show::words(&words, machine, lent, used)
+            let ten = [x[0], x[1], x[2], x[3], x[4], y[0], y[1], y[2], y[3], y[4]];
+            words(&ten, lent)
         }
-        TwoArguments::Refused(why) => {
-            quiet(machine, used, records::arguments_refusal(why), 0, 0, 0)
-        }
+        TwoArguments::Refused(why) => refused(records::arguments_refusal(why), 0),
     }
 }
 
-pub(crate) fn carry_out(
-    access: Access,
-    machine: MachineState,
-    lent: &mut [u8],
-    used: usize,
-) -> Reply {
-    match access {
-        Access::Malformed => malformed(machine, used),
-        Access::Size { arguments } => size(arguments, machine, used),
-        Access::OneArgument { arguments } => one(arguments, machine, lent, used),
-        Access::TwoArguments { arguments } => two(arguments, machine, lent, used),
+// What is asked of the arguments record of a header: kinds 16 to 18.
+pub(crate) fn access(header: Header, lent: &mut [u8]) -> Reply
+    ensures { λ r. ⌜ Accesses header (now (lent .entry)) r (now (lent .exit)) ⌝ }
+{
+    let built = records::decode_arguments(header, header.b, header.c);
+    let SomeArguments::Is(arguments) = built else {
+        return none();
+    };
+    let kind = header.kind;
+    match kind {
+        16 => size(arguments),
+        17 => one(arguments, lent),
+        18 => two(arguments, lent),
+        _ => none(),
     }
 }

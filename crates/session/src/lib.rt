@@ -1,25 +1,38 @@
 // One record carried out on a machine and a lent store, with the bytes lent beside it. Below are records, which decodes records and encodes replies,
-// and calls, text, mmu and exposed, which do the work; above is drive, the program that reads records and writes answers. docs/FORMAT.md says what
+// and calls, text, store and exposed, which do the work; above is drive, the program that reads records and writes answers. docs/FORMAT.md says what
 // each record does. No demand of document 01 rests on this crate: what it carries out is compared with the Rust from outside.
-use machine_state::Answer;
 use machine_state::Answered;
 use machine_state::Event;
 use machine_state::MachineState;
 use records::Header;
 use records::Reply;
 use records::SomeCall;
+use replies::gave;
+use replies::none;
+use replies::reply_of;
+ghost use mathlib.Core.List.{[]};
 ghost use mathlib.Core.Path.{_≡_};
-ghost use Rattle.machine_state.specs.Answers.{outcomeOf};
-ghost use Rattle.session.specs.Replies.{shapeOf, quietReply, malformedReply};
+ghost use Rattle.store.specs.Store.{storeOf};
+ghost use Rattle.utils.specs.Outcome.{gives};
+ghost use Rattle.session.specs.Replies.{replyOf, noReply};
+ghost use Rattle.session.specs.CarriesOut.{CarriesOut, Tells, carriedBy, still as stays};
 
+mod replies; // replies.rt: what an answer says, in numbers
 mod access; // access.rt: size selection and access of an arguments record
 mod show; // show.rt: the records that show and load, and the page view
 mod texts; // texts.rt: the texts
 mod reset; // reset.rt: a machine and a store from a record
 mod report; // report.rt: the exposed places of the calls in a block
 
-pub use report::exposed_report;
 pub use reset::reset_to;
+
+// What a record leaves, beside the slices.
+pub struct Carried {
+    pub machine: MachineState,
+    pub used: usize,
+    pub event: Event,
+    pub reply: Reply,
+}
 
 // What a reset leaves: the machine, and how much of the slices is the store.
 pub struct Start {
@@ -30,91 +43,46 @@ pub struct Start {
     pub used: usize,
 }
 
-fn refusal_of(answer: Answer) -> u64
-    ensures { λ n. ⌜ n ≡ (outcomeOf answer) .number ⌝ }
-{
-    match answer {
-        Answer::Done => 0,
-        Answer::Value(_) => 0,
-        Answer::Truth(_) => 0,
-        Answer::Refused(why) => records::refusal(why),
-    }
-}
-
-fn shape_of(answer: Answer) -> u64
-    ensures { λ n. ⌜ n ≡ shapeOf ((outcomeOf answer) .values) ⌝ }
-{
-    match answer {
-        Answer::Done => 0,
-        Answer::Value(_) => 1,
-        Answer::Truth(_) => 2,
-        Answer::Refused(_) => 0,
-    }
-}
-
-fn value_of(answer: Answer) -> u64 {
-    match answer {
-        Answer::Done => 0,
-        Answer::Value(value) => value,
-        Answer::Truth(truth) => truth as u64,
-        Answer::Refused(_) => 0,
-    }
-}
-
 // What a call left, with so many of the lent bytes.
-fn answered(result: Answered, given: usize) -> Reply {
-    let answer = result.answer;
-    let event = result.event;
+fn answered(result: Answered, given: usize) -> Carried
+    ensures { λ r. ⌜ r ≡ carriedBy result given ⌝ }
+{
     let machine = result.machine;
-    Reply {
+    let event = result.event;
+    let answer = result.answer;
+    let reply = reply_of(answer, given);
+    Carried {
         machine,
         used: result.used,
-        formed: true,
-        refusal: refusal_of(answer),
-        shape: shape_of(answer),
-        value: value_of(answer),
         event,
-        given,
+        reply,
     }
 }
 
-// The answer of a record that leaves the machine and the count.
-pub fn quiet(
-    machine: MachineState,
-    used: usize,
-    refusal: u64,
-    shape: u64,
-    value: u64,
-    given: usize,
-) -> Reply
-    ensures { λ r. ⌜ r ≡ quietReply machine used refusal shape value given ⌝ }
+// A record that leaves the machine and the count.
+fn still(machine: MachineState, used: usize, reply: Reply) -> Carried
+    ensures { λ r. ⌜ r ≡ stays machine used reply ⌝ }
 {
-    Reply {
+    Carried {
         machine,
         used,
-        formed: true,
-        refusal,
-        shape,
-        value,
         event: Event::Quiet,
-        given,
+        reply,
     }
 }
 
-// The answer to what is no record.
-pub fn malformed(machine: MachineState, used: usize) -> Reply
-    ensures { λ r. ⌜ r ≡ malformedReply machine used ⌝ }
+// What is no record.
+pub fn malformed(machine: MachineState, used: usize) -> Carried
+    ensures { λ r. ⌜ r ≡ stays machine used noReply ⌝ }
 {
-    Reply {
-        machine,
-        used,
-        formed: false,
-        refusal: 0,
-        shape: 0,
-        value: 0,
-        event: Event::Quiet,
-        given: 0,
-    }
+    still(machine, used, none())
+}
+
+// A record that is done and has nothing to tell.
+pub fn done(machine: MachineState, used: usize) -> Carried
+    ensures { λ r. ⌜ r ≡ stays machine used (replyOf (gives []) 0) ⌝ }
+{
+    still(machine, used, gave(0))
 }
 
 // A call of 01's table.
@@ -125,7 +93,10 @@ fn tabled(
     dir: &mut [u64],
     bytes: &mut [u8],
     used: usize,
-) -> Reply {
+) -> Carried
+    ensures { λ r. ⌜ CarriesOut header machine (storeOf (now (dir .entry)) (now (bytes .entry)) used) (now (lent .entry))
+        r (storeOf (now (dir .exit)) (now (bytes .exit)) (r .used)) (now (lent .exit)) ⌝ }
+{
     let n = lent.len();
     let decoded = records::decode_call(header);
     match decoded {
@@ -134,8 +105,21 @@ fn tabled(
     }
 }
 
-// Carries out one record, of any kind but a reset and a report. `lent` holds the bytes that follow the header, or the buffer that a call or a text
-// is lent.
+// A record that leaves the machine and the store.
+fn told(header: Header, machine: MachineState, lent: &mut [u8]) -> Reply
+    ensures { λ r. ⌜ Tells header machine (now (lent .entry)) r (now (lent .exit)) ⌝ }
+{
+    let kind = header.kind;
+    match kind {
+        16 | 17 | 18 => access::access(header, lent),
+        26 => show::machine_words(machine, lent),
+        32 | 33 | 34 | 35 | 36 | 37 => texts::text(header, machine, lent),
+        40 => report::exposed_report(header, lent),
+        _ => none(),
+    }
+}
+
+// Carries out one record, of any kind but a reset. `lent` holds the bytes that follow the header, or the buffer that a call or a text is lent.
 pub fn carry_out(
     header: Header,
     machine: MachineState,
@@ -143,26 +127,17 @@ pub fn carry_out(
     dir: &mut [u64],
     bytes: &mut [u8],
     used: usize,
-) -> Reply {
+) -> Carried
+    ensures { λ r. ⌜ CarriesOut header machine (storeOf (now (dir .entry)) (now (bytes .entry)) used) (now (lent .entry))
+        r (storeOf (now (dir .exit)) (now (bytes .exit)) (r .used)) (now (lent .exit)) ⌝ }
+{
     let kind = header.kind;
-    if kind <= 10 {
-        return tabled(header, machine, lent, dir, bytes, used);
+    match kind {
+        1 | 2 | 3 | 4 | 5 | 6 | 7 | 8 | 9 | 10 => {
+            tabled(header, machine, lent, dir, bytes, used)
+        }
+        11 => answered(machine.mem_read_byte(header.a, dir, bytes, used), 0),
+        20 | 25 | 27 | 28 => still(machine, used, show::show(header, lent, dir, bytes, used)),
+        _ => still(machine, used, told(header, machine, lent)),
     }
-    if kind == 11 {
-        return answered(machine.mem_read_byte(header.a, dir, bytes, used), 0);
-    }
-    if kind <= 18 {
-        return access::carry_out(records::decode_access(header), machine, lent, used);
-    }
-    if kind <= 28 {
-        return show::carry_out(
-            records::decode_show(header),
-            machine,
-            lent,
-            dir,
-            bytes,
-            used,
-        );
-    }
-    texts::carry_out(records::decode_told(header), machine, lent, used)
 }

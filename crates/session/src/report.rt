@@ -1,30 +1,35 @@
 // The exposed places of the calls whose headers stand in a block.
-use super::malformed;
-use super::quiet;
+use super::replies::gave;
+use super::replies::none;
+use super::replies::refused;
 use calls::Call;
 use exposed::CallEntry;
 use exposed::Verdict;
-use machine_state::MachineState;
 use records::Header;
 use records::Reply;
 use records::SomeCall;
 ghost use mathlib.Core.Path.{_≡_};
 ghost use Prim.Native.Nat.{_≤_};
 ghost use lib.ListN.{length};
+ghost use Rattle.machine_state.specs.Memory.{passed};
+ghost use Rattle.runs.specs.Runs.{filled};
 ghost use Rattle.exposed.specs.Reported.{verdictOutcome};
+ghost use Rattle.session.specs.Replies.{replyOf};
+ghost use Rattle.session.specs.Reports.{Reports, placeByte};
 
-fn refusal_of(verdict: Verdict) -> u64
-    ensures { λ n. ⌜ n ≡ (verdictOutcome verdict) .number ⌝ }
+fn reply(verdict: Verdict) -> Reply
+    ensures { λ r. ⌜ r ≡ replyOf (passed (verdictOutcome verdict)) 182 ⌝ }
 {
     match verdict {
-        Verdict::Listed => 0,
-        Verdict::TooManyCalls => 12,
+        Verdict::Listed => gave(182),
+        Verdict::TooManyCalls => refused(12, 182),
     }
 }
 
 // One byte for each place, 0 or 1.
 fn put_places(lent: &mut [u8], places: [bool; 182])
     requires { ⌜ 182 ≤ length (now lent) ⌝ }
+    ensures { λ _. ⌜ now (lent .exit) ≡ filled (now (lent .entry)) 0 (placeByte places) 182 ⌝ }
 {
     let mut k: usize = 0;
     while k < 182 {
@@ -34,22 +39,26 @@ fn put_places(lent: &mut [u8], places: [bool; 182])
 }
 
 // The report of the calls in the block, at most 64, with the count that the header states.
-pub fn exposed_report(
-    header: Header,
-    machine: MachineState,
-    lent: &mut [u8],
-    used: usize,
-) -> Reply {
-    if 64 < header.length / 128 || header.length % 128 != 0 || lent.len() < 182 {
-        return malformed(machine, used);
+pub(crate) fn exposed_report(header: Header, lent: &mut [u8]) -> Reply
+    requires { ⌜ header .kind ≡ 40 ⌝ }
+    ensures { λ r. ⌜ Reports header (now (lent .entry)) r (now (lent .exit)) ⌝ }
+{
+    if 64 < header.length / 128 {
+        return none();
     }
-    let given = (header.length / 128) as usize;
+    if header.length % 128 != 0 {
+        return none();
+    }
+    if lent.len() < 182 {
+        return none();
+    }
+    let n = (header.length / 128) as usize;
     let mut calls = [CallEntry { call: Call::Push }; 64];
     let mut k: usize = 0;
-    while k < given {
+    while k < n {
         let decoded = records::decode_call(records::header_in(lent, k));
         let SomeCall::Is(call) = decoded else {
-            return malformed(machine, used);
+            return none();
         };
         calls[k] = CallEntry { call };
         k += 1;
@@ -58,5 +67,5 @@ pub fn exposed_report(
     let verdict = report.verdict;
     let places = report.places;
     put_places(lent, places);
-    quiet(machine, used, refusal_of(verdict), 0, 0, 182)
+    reply(verdict)
 }

@@ -2,8 +2,12 @@
 use super::Start;
 use machine_state::MachineState;
 use records::Header;
+ghost use mathlib.Core.Path.{_≡_};
+ghost use Rattle.session.specs.Starts.{Starts, noStart};
 
-fn nothing() -> Start {
+fn nothing() -> Start
+    ensures { λ r. ⌜ r ≡ noStart ⌝ }
+{
     Start {
         formed: false,
         machine: MachineState::new(),
@@ -13,25 +17,27 @@ fn nothing() -> Start {
     }
 }
 
-// The machine (22 parents, rflags, gdt, idt) and the directory come from the block. a slots and b bytes are lent, each byte the low byte of c; the
-// word of the size is the count of slots in use, which may be anything.
-pub fn reset_to(header: Header, block: &[u8], dir: &mut [u64], bytes: &mut [u8]) -> Start {
+// The machine and the directory come from the block. a slots and b bytes are lent, each byte the low byte of c; the word of the size is the count of
+// slots in use, which may be anything.
+pub fn reset_to(header: Header, block: &[u8], dir: &mut [u64], bytes: &mut [u8]) -> Start
+    ensures { λ r. ⌜ Starts header (now (block .entry)) (now (dir .entry)) (now (bytes .entry)) r (now (dir .exit)) (now (bytes .exit)) ⌝ }
+{
     let slots = header.a as usize;
     let length = header.b as usize;
     if bytes.len() < length {
         return nothing();
     }
-    if !records::take_words(dir, slots, block, 200) {
+    if !runs::take_words(dir, slots, block, 200) {
         return nothing();
     }
-    records::fill(bytes, length, (header.c % 256) as u8);
+    runs::fill(bytes, 0, length, (header.c % 256) as u8);
     let mut regs = [0u64; 22];
-    records::take_words(&mut regs, 22, block, 0);
+    runs::take_words(&mut regs, 22, block, 0);
     let machine = MachineState {
         regs,
-        rflags: records::word_at(block, 176),
-        gdt: records::word_at(block, 184),
-        idt: records::word_at(block, 192),
+        rflags: runs::word_at(block, 176),
+        gdt: runs::word_at(block, 184),
+        idt: runs::word_at(block, 192),
     };
     Start {
         formed: true,

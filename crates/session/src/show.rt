@@ -1,162 +1,136 @@
 // The records that show the machine, the directory, bytes and a page's view, and the one that loads bytes.
-use super::malformed;
-use super::quiet;
+use super::replies::gave;
+use super::replies::none;
+use super::replies::refused;
 use machine_state::MachineState;
+use records::Header;
 use records::Reply;
-use records::Show;
-ghost use Prim.Native.Nat.{_≤_};
-ghost use lib.ListN.{length};
+ghost use mathlib.Core.Bool.{cond};
+ghost use mathlib.Core.List.{[]};
+ghost use mathlib.Core.Path.{_≡_};
+ghost use Prim.Native.Nat.{_-_, _≤_};
+ghost use lib.ListN.{length, set, take};
+ghost use Rattle.utils.specs.Outcome.{gives};
+ghost use Rattle.store.specs.View.{viewOf};
+ghost use Rattle.store.specs.Store.{storeOf};
+ghost use Rattle.runs.specs.Runs.{room, bytesOf, over};
+ghost use Rattle.session.specs.Replies.{replyOf, noReply, WordsGiven};
+ghost use Rattle.session.specs.Shows.{Shows, BytesGiven, ViewGiven, MachineGiven, Loaded};
 
 // Words, low byte first.
-pub(crate) fn words(words: &[u64], machine: MachineState, lent: &mut [u8], used: usize) -> Reply {
-    if !records::put_words(lent, 0, words) {
-        return malformed(machine, used);
+pub(crate) fn words(words: &[u64], lent: &mut [u8]) -> Reply
+    ensures { λ r. ⌜ WordsGiven (now (words .entry)) (now (lent .entry)) r (now (lent .exit)) ⌝ }
+{
+    if !runs::put_words(lent, 0, words) {
+        return none();
     }
-    quiet(machine, used, 0, 0, 0, 8 * words.len())
+    gave(8 * words.len())
 }
 
-// count bytes from `from` on.
-fn part(
-    bytes: &[u8],
-    from: u64,
-    count: u64,
-    machine: MachineState,
-    lent: &mut [u8],
-    used: usize,
-) -> Reply {
-    if !records::copy(lent, 0, bytes, from as usize, count as usize) {
-        return malformed(machine, used);
+// n bytes from `from` on.
+fn part(bytes: &[u8], from: u64, n: u64, lent: &mut [u8]) -> Reply
+    ensures { λ r. ⌜ BytesGiven (now (bytes .entry)) from n (now (lent .entry)) r (now (lent .exit)) ⌝ }
+{
+    if !runs::copy(lent, 0, bytes, from as usize, n as usize) {
+        return none();
     }
-    quiet(machine, used, 0, 0, 0, count as usize)
+    gave(n as usize)
 }
 
 // The machine's 25 words: 22 parents, rflags, gdt, idt.
-fn machine_words(machine: MachineState, lent: &mut [u8], used: usize) -> Reply {
+pub(crate) fn machine_words(machine: MachineState, lent: &mut [u8]) -> Reply
+    ensures { λ r. ⌜ MachineGiven machine (now (lent .entry)) r (now (lent .exit)) ⌝ }
+{
     if lent.len() < 200 {
-        return malformed(machine, used);
+        return none();
     }
     let regs = machine.regs;
     let others = [machine.rflags, machine.gdt, machine.idt];
-    records::put_words(lent, 0, &regs);
-    records::put_words(lent, 176, &others);
-    quiet(machine, used, 0, 0, 0, 200)
+    runs::put_words(lent, 0, &regs);
+    runs::put_words(lent, 176, &others);
+    gave(200)
 }
 
 // The lent bytes go into the store's, from `at` on.
-fn load(at: u64, machine: MachineState, lent: &[u8], bytes: &mut [u8], used: usize) -> Reply {
-    if !records::copy(bytes, at as usize, lent, 0, lent.len()) {
-        return malformed(machine, used);
+fn load(at: u64, lent: &[u8], bytes: &mut [u8]) -> Reply
+    ensures { λ r. ⌜ Loaded at (now (lent .entry)) (now (bytes .entry)) r (now (bytes .exit)) ⌝ }
+{
+    if !runs::copy(bytes, at as usize, lent, 0, lent.len()) {
+        return none();
     }
-    quiet(machine, used, 0, 0, 0, 0)
+    gave(0)
 }
 
 // A view's part; an empty view is refusal 4.
-fn shown(
-    view: &[u8],
-    from: u64,
-    count: u64,
-    machine: MachineState,
-    lent: &mut [u8],
-    used: usize,
-) -> Reply {
+fn shown(view: &[u8], from: u64, n: u64, lent: &mut [u8]) -> Reply
+    ensures { λ r. ⌜ ViewGiven (now (view .entry)) from n (now (lent .entry)) r (now (lent .exit)) ⌝ }
+{
     if view.len() == 0 {
-        return quiet(machine, used, 4, 0, 0, 0);
+        return refused(4, 0);
     }
-    part(view, from, count, machine, lent, used)
+    part(view, from, n, lent)
 }
 
 // The lent page of zeros, but for its last byte: z bytes of which the last is v.
-fn put_last(page: &mut [u8], z: usize, v: u8) {
-    if z == 0 {
-        return;
+fn put_last(page: &mut [u8], z: usize, v: u8)
+    requires { ⌜ z ≤ length (now page) ⌝ }
+    ensures { λ _. ⌜ take z (now (page .exit)) ≡ set (take z (now (page .entry))) (z - 1) v ⌝ }
+{
+    if 0 < z {
+        page[z - 1] = v;
     }
-    if page.len() < z {
-        return;
-    }
-    page[z - 1] = v;
 }
 
 fn view_with<'a>(
-    page: u64,
-    from: u64,
-    count: u64,
+    header: Header,
     zeros: &'a [u8],
     z: usize,
-    machine: MachineState,
     lent: &mut [u8],
     dir: &[u64],
     bytes: &'a [u8],
     used: usize,
 ) -> Reply
     requires { ⌜ z ≤ length (now zeros) ⌝ }
+    ensures { λ r. ⌜ ViewGiven (viewOf (storeOf (now (dir .entry)) (now (bytes .entry)) used) (take z (now (zeros .entry))) (header .a))
+        (header .b) (header .c) (now (lent .entry)) r (now (lent .exit)) ⌝ }
 {
-    let view = mmu::page_view(page, dir, bytes, used, &zeros[..z]);
-    shown(view, from, count, machine, lent, used)
+    let view = store::page_view(header.a, dir, bytes, used, &zeros[..z]);
+    shown(view, header.b, header.c, lent)
 }
 
-// The view with a page of z zeros lent, whose last is v.
-fn view(
-    page: u64,
-    from: u64,
-    count: u64,
-    z: u64,
-    v: u64,
-    machine: MachineState,
-    lent: &mut [u8],
-    dir: &[u64],
-    bytes: &[u8],
-    used: usize,
-) -> Reply {
+// The part of a page's view that the header asks for.
+fn view(header: Header, lent: &mut [u8], dir: &[u64], bytes: &[u8], used: usize) -> Reply
+    requires { ⌜ header .kind ≡ 20 ⌝ }
+    ensures { λ r. ⌜ Shows header (storeOf (now (dir .entry)) (now (bytes .entry)) used) (now (lent .entry))
+        r (storeOf (now (dir .entry)) (now (bytes .entry)) used) (now (lent .exit)) ⌝ }
+{
+    let page = header.first;
+    let z = page.base as usize;
     if 4097 < z {
-        return malformed(machine, used);
+        return none();
     }
     let mut zeros = [0u8; 4097];
-    put_last(&mut zeros, z as usize, (v % 256) as u8);
-    view_with(
-        page,
-        from,
-        count,
-        &zeros,
-        z as usize,
-        machine,
-        lent,
-        dir,
-        bytes,
-        used,
-    )
+    put_last(&mut zeros, z, (page.value % 256) as u8);
+    view_with(header, &zeros, z, lent, dir, bytes, used)
 }
 
-pub(crate) fn carry_out(
-    show: Show,
-    machine: MachineState,
+// What is shown or loaded: kinds 20, 25, 27 and 28.
+pub(crate) fn show(
+    header: Header,
     lent: &mut [u8],
     dir: &[u64],
     bytes: &mut [u8],
     used: usize,
-) -> Reply {
-    match show {
-        Show::Malformed => malformed(machine, used),
-        Show::View {
-            page,
-            from,
-            count,
-            zeros,
-            last,
-        } => view(
-            page,
-            from,
-            count,
-            zeros,
-            last,
-            machine,
-            lent,
-            dir,
-            bytes,
-            used,
-        ),
-        Show::Load { at } => load(at, machine, lent, bytes, used),
-        Show::Machine => machine_words(machine, lent, used),
-        Show::Directory => words(dir, machine, lent, used),
-        Show::Bytes { from, count } => part(bytes, from, count, machine, lent, used),
+) -> Reply
+    ensures { λ r. ⌜ Shows header (storeOf (now (dir .entry)) (now (bytes .entry)) used) (now (lent .entry))
+        r (storeOf (now (dir .entry)) (now (bytes .exit)) used) (now (lent .exit)) ⌝ }
+{
+    let kind = header.kind;
+    match kind {
+        20 => view(header, lent, dir, bytes, used),
+        25 => load(header.a, lent, bytes),
+        27 => words(dir, lent),
+        28 => part(bytes, header.a, header.b, lent),
+        _ => none(),
     }
 }

@@ -1,31 +1,129 @@
 // The texts: a text's length, or its refusal; the whole buffer follows.
-use super::malformed;
-use super::quiet;
+use super::replies::none;
+use super::replies::refused;
+use super::replies::value;
+use instruction_set::InstructionArgument;
+use instruction_set::SomeArgument;
+use instruction_set::SomeSize;
 use machine_state::MachineState;
+use records::Header;
 use records::Reply;
-use records::Told;
+use records::SomeArguments;
+use records::SomeEvent;
 use text::Text;
+ghost use mathlib.Core.Path.{_≡_};
+ghost use Rattle.machine_state.specs.Memory.{passed};
+ghost use Rattle.text.specs.Answers.{numberOf as textNumber, textOutcome};
+ghost use Rattle.session.specs.Replies.{replyOf};
+ghost use Rattle.session.specs.Texts.{Texts};
 
-fn reply(text: Text, machine: MachineState, used: usize, given: usize) -> Reply {
-    match text {
-        Text::Length(length) => quiet(machine, used, 0, 1, length as u64, given),
-        Text::Refused(why) => quiet(machine, used, records::text_refusal(why), 0, 0, given),
+fn refusal(why: text::Refusal) -> u64
+    ensures { λ n. ⌜ n ≡ textNumber why ⌝ }
+{
+    match why {
+        text::Refusal::NoScale => 3,
+        text::Refusal::TooLong => 7,
+        text::Refusal::Arguments(deeper) => records::arguments_refusal(deeper),
     }
 }
 
-pub(crate) fn carry_out(told: Told, machine: MachineState, lent: &mut [u8], used: usize) -> Reply {
+fn reply(text: Text, given: usize) -> Reply
+    ensures { λ r. ⌜ r ≡ replyOf (passed (textOutcome text)) given ⌝ }
+{
+    match text {
+        Text::Length(length) => value(length as u64, given),
+        Text::Refused(why) => refused(refusal(why), given),
+    }
+}
+
+fn operand(header: Header, machine: MachineState, lent: &mut [u8]) -> Reply
+    requires { ⌜ header .kind ≡ 32 ⌝ }
+    ensures { λ r. ⌜ Texts header machine (now (lent .entry)) r (now (lent .exit)) ⌝ }
+{
     let n = lent.len();
-    match told {
-        Told::Malformed => malformed(machine, used),
-        Told::Operand { argument, size } => {
-            reply(text::format(argument, size, lent), machine, used, n)
-        }
-        Told::Arguments { arguments } => {
-            reply(text::arguments_text(arguments, lent), machine, used, n)
-        }
-        Told::State => reply(text::state_text(machine, lent), machine, used, n),
-        Told::Event { event } => reply(text::event_text(event, lent), machine, used, n),
-        Told::Plain { argument } => reply(text::argument_text(argument, lent), machine, used, n),
-        Told::Register { register } => reply(text::register_text(register, lent), machine, used, n),
+    let given = records::given_operand(header.first);
+    let SomeArgument::Present(argument) = given else {
+        return none();
+    };
+    let found = numbers::size_at(header.size);
+    let SomeSize::Present(size) = found else {
+        return none();
+    };
+    reply(text::format(argument, size, lent), n)
+}
+
+// The repeats do not show in the text: b and c are the buffer.
+fn arguments(header: Header, machine: MachineState, lent: &mut [u8]) -> Reply
+    requires { ⌜ header .kind ≡ 33 ⌝ }
+    ensures { λ r. ⌜ Texts header machine (now (lent .entry)) r (now (lent .exit)) ⌝ }
+{
+    let n = lent.len();
+    let built = records::decode_arguments(header, 0, 0);
+    match built {
+        SomeArguments::Malformed => none(),
+        SomeArguments::Is(arguments) => reply(text::arguments_text(arguments, lent), n),
+    }
+}
+
+fn state(header: Header, machine: MachineState, lent: &mut [u8]) -> Reply
+    requires { ⌜ header .kind ≡ 34 ⌝ }
+    ensures { λ r. ⌜ Texts header machine (now (lent .entry)) r (now (lent .exit)) ⌝ }
+{
+    let n = lent.len();
+    reply(text::state_text(machine, lent), n)
+}
+
+fn event(header: Header, machine: MachineState, lent: &mut [u8]) -> Reply
+    requires { ⌜ header .kind ≡ 35 ⌝ }
+    ensures { λ r. ⌜ Texts header machine (now (lent .entry)) r (now (lent .exit)) ⌝ }
+{
+    let n = lent.len();
+    let found = records::decode_event(header.first);
+    match found {
+        SomeEvent::Malformed => none(),
+        SomeEvent::Is(event) => reply(text::event_text(event, lent), n),
+    }
+}
+
+fn plain(header: Header, machine: MachineState, lent: &mut [u8]) -> Reply
+    requires { ⌜ header .kind ≡ 36 ⌝ }
+    ensures { λ r. ⌜ Texts header machine (now (lent .entry)) r (now (lent .exit)) ⌝ }
+{
+    let n = lent.len();
+    let given = records::given_operand(header.first);
+    match given {
+        SomeArgument::Absent => none(),
+        SomeArgument::Present(argument) => reply(text::argument_text(argument, lent), n),
+    }
+}
+
+fn register(header: Header, machine: MachineState, lent: &mut [u8]) -> Reply
+    requires { ⌜ header .kind ≡ 37 ⌝ }
+    ensures { λ r. ⌜ Texts header machine (now (lent .entry)) r (now (lent .exit)) ⌝ }
+{
+    let n = lent.len();
+    let given = records::given_operand(header.first);
+    let SomeArgument::Present(argument) = given else {
+        return none();
+    };
+    let InstructionArgument::Register { register } = argument else {
+        return none();
+    };
+    reply(text::register_text(register, lent), n)
+}
+
+// Whose text a record asks for: kinds 32 to 37.
+pub(crate) fn text(header: Header, machine: MachineState, lent: &mut [u8]) -> Reply
+    ensures { λ r. ⌜ Texts header machine (now (lent .entry)) r (now (lent .exit)) ⌝ }
+{
+    let kind = header.kind;
+    match kind {
+        32 => operand(header, machine, lent),
+        33 => arguments(header, machine, lent),
+        34 => state(header, machine, lent),
+        35 => event(header, machine, lent),
+        36 => plain(header, machine, lent),
+        37 => register(header, machine, lent),
+        _ => none(),
     }
 }

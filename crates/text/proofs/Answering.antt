@@ -2,7 +2,7 @@
 -- outcome belongs to it alone, so that the contract fixes the answer and the buffer. Assumes nothing.
 use mathlib.Core.List.{List, [], _∷_, _++_}
 use mathlib.Core.Path.{_≡_, sym, ap, _∙_}
-use Prim.Native.Nat.{ℕ, _≤_, _<_}
+use Prim.Native.Nat.{ℕ, _^_, _≤_, _<_}
 use native.Mathlib.Nat.{zero-add}
 use native.Mathlib.Omega.{arith}
 use borrow.Author.Tests.{le-leb, lt-leb}
@@ -17,17 +17,18 @@ use Rattle.instruction_set.specs.declared.InstructionArguments.{InstructionArgu
 use Rattle.instruction_set.specs.declared.SomeArgument.{SomeArgument}
 use Rattle.instruction_set.specs.declared.SomeArgument.the-variants.{Present}
 use Rattle.text.specs.Answers.{Told, says, declines, Said}
-use Rattle.text.specs.Operands.{listTold, atSize, argumentsOf, argumentsText}
-use Rattle.text.specs.Put.{Put}
+use Rattle.text.specs.Arguments.{listTold, atSize, argumentsOf, argumentsText}
+use Rattle.pieces.proofs.Writing.{from-zero}
+use Rattle.pieces.specs.Put.{Put}
 
--- n was measured over another buffer, d₀
-module _ {m n : ℕ} {d₀ d₁ d t : List ℕ} (p : Put m d₀ 0 t d₁ n) where
+-- n was measured over another buffer, d₀; a bound on the text's length says that the count went no further than words do
+module _ {m n : ℕ} {d₀ d₁ d t : List ℕ} (p : Put m d₀ 0 t d₁ n) (b : m < 2 ^ 64) where
   pub too-long : length d < n → Said (says t) d d (refuses 7)
-  too-long h = let e = lt-leb (length t) (length d) (omega (arith, p .next)) in record { answer = simp e; bytes = simp e }
+  too-long h = let e = lt-leb (length t) (length d) (omega (arith, from-zero b p)) in record { answer = simp e; bytes = simp e }
 
   pub in-room : {k r : ℕ} {d′ : List ℕ} → n ≤ length d → Put k d 0 t d′ r → Said (says t) d d′ (gives (n ∷ []))
   in-room h q =
-      let z : n ≡ length t = omega (arith, p .next) in
+      let z = from-zero b p in
       let e = le-leb (length t) (length d) (omega arith) in
       record {
         answer = simp e (ap (λ (k : ℕ). gives (k ∷ [])) z);

@@ -1,10 +1,4 @@
-pub mod Writing
-pub mod HexLaws
-pub mod Cells
-pub mod Displacement
 pub mod Answering
-pub mod StateLines
 pub mod Outcomes
-pub mod OneName
 pub mod Longest
 pub mod TextExamples

@@ -1,30 +1,25 @@
--- 01's examples of texts, and the longest texts, computed. Assumes nothing.
+-- 01's examples of operands' texts, and the longest, computed. Assumes nothing.
 use mathlib.Core.Bool.{false}
-use mathlib.Core.List.{[], _∷_, map}
+use mathlib.Core.List.{[], _∷_}
 use mathlib.Core.Path.{_≡_, refl}
 use lib.Count.{leadingZeros}
 use lib.IntN.{pos, negsuc}
-use lib.ListN.{length, replicate}
 use Rattle.utils.specs.Word.{cut}
-use Rattle.instruction_set.specs.Registers.{row}
 use Rattle.instruction_set.specs.declared.ArgumentSize.the-variants.{Bit64, Bit8}
 use Rattle.instruction_set.specs.declared.InstructionArgument.{InstructionArgument}
 use Rattle.instruction_set.specs.declared.InstructionArgument.the-variants.{Immediate, EffectiveAddress}
 use Rattle.instruction_set.specs.declared.InstructionArguments.{InstructionArguments}
-use Rattle.instruction_set.specs.declared.Register.the-variants.{RBP, RCX, R10D, R11D, CR0, CR2, CR3, CR4, CR8}
+use Rattle.instruction_set.specs.declared.Register.the-variants.{RBP, RCX, R10D, R11D}
 use Rattle.instruction_set.specs.declared.SomeArgument.the-variants as some
 use Rattle.instruction_set.specs.declared.SomeOpcode.the-variants as opcode
 use Rattle.instruction_set.specs.declared.SomeRegister.the-variants as reg
 use Rattle.instruction_set.specs.declared.SomeScale.the-variants as scale
 use Rattle.instruction_set.specs.declared.SomeSize.the-variants as size
-use Rattle.machine_state.specs.declared.Event.the-variants.{Control, Video}
-use Rattle.machine_state.specs.declared.MachineState.{MachineState}
+use Rattle.pieces.specs.Ascii.{ascii}
+use Rattle.pieces.specs.Hex.{hexDigits}
+use Rattle.register_names.specs.Names.{nameOf}
 use Rattle.text.specs.Answers.{says, declines}
-use Rattle.text.specs.Ascii.{ascii}
-use Rattle.text.specs.Hex.{hexDigits}
-use Rattle.text.specs.Lines.{linesAfter, labelOf, eventText, stateText}
-use Rattle.text.specs.Names.{nameOf}
-use Rattle.text.specs.Operands.{operandTold, argumentsText}
+use Rattle.text.specs.Arguments.{operandTold, argumentsText}
 use Rattle.text.proofs.Longest.{lengthOf}
 
 -- `-0x8(%rbp)`; -1 at Bit8 `$0xff`; `0x0(,%rcx,8)`; lowest displacement alone `-0x80000000`; and an index without a scale
@@ -37,16 +32,6 @@ pub examples : operandTold Bit64 (EffectiveAddress (reg.Present RBP) reg.Absent 
     ≡ says (ascii "-0x8(%rbp)") ∷ says (ascii "$0xff") ∷ says (ascii "0x0(,%rcx,8)") ∷ says (ascii "-0x80000000") ∷ declines 3 ∷ []
 unfolding cut leadingZeros hexDigits nameOf
 examples = refl
-
--- the labels of the control registers
-pub labels : map labelOf (CR0 ∷ CR2 ∷ CR3 ∷ CR4 ∷ CR8 ∷ []) ≡ ascii "02345"
-unfolding row map
-labels = refl
-
--- event lines: CR8 -1, and the byte 0xe9
-pub event-lines : eventText (Control CR8 18446744073709551615) ∷ eventText (Video 233) ∷ [] ≡ ascii "CR5: ffffffffffffffff" ∷ ascii "VIDEO: Ã©" ∷ []
-unfolding row leadingZeros hexDigits
-event-lines = refl
 
 -- two operands of 28 bytes each
 abbrev widest : InstructionArgument
@@ -65,11 +50,3 @@ longest = record {
 pub longest-arguments : lengthOf (argumentsText longest) ≡ 57
 unfolding leadingZeros hexDigits nameOf
 longest-arguments = refl
-
--- every register -1
-abbrev full : MachineState
-full = record { regs = replicate 22 18446744073709551615; rflags = 0; gdt = 0; idt = 0 }
-
-pub longest-state : length (stateText full) ≡ 577
-unfolding leadingZeros hexDigits nameOf linesAfter row
-longest-state = refl

@@ -1,6 +1,7 @@
 // The texts of the machine: registers, operands, the arguments record, the state and the event lines, each into a buffer that the caller
-// lends. Below are instruction_set and machine_state, whose values are shown; above are the programs, and later the readers, which use the
-// same definitions of specs/. Document 01: "Text", the lines of "Registers and flags" and "Addresses, pages, walk", refusals 9, 8, 3 and 7.
+// lends. Below are the writers: pieces, on it register_names, on that operand_text and state_lines, which show the values of instruction_set
+// and machine_state. Above are the programs, and records and session, which compare the texts with the Rust's.
+// Document 01: "Text", the lines of "Registers and flags" and "Addresses, pages, walk", refusals 9, 8, 3 and 7.
 // A text is measured first, over an empty buffer, and written second: a refused text leaves every byte.
 use instruction_set::ArgumentSize;
 use instruction_set::InstructionArgument;
@@ -12,14 +13,9 @@ use machine_state::Event;
 use machine_state::MachineState;
 ghost use Rattle.instruction_set.specs.declared.ArgumentSize.the-variants.{Bit64};
 ghost use Rattle.text.specs.Answers.{Said, says, textOutcome};
-ghost use Rattle.text.specs.Lines.{stateText, eventText};
-ghost use Rattle.text.specs.Names.{registerText};
-ghost use Rattle.text.specs.Operands.{operandTold, listTold, argumentsText};
-
-mod lines;
-mod names;
-mod operands;
-mod pieces;
+ghost use Rattle.text.specs.Arguments.{operandTold, listTold, argumentsText};
+ghost use Rattle.state_lines.specs.Lines.{stateText, eventText};
+ghost use Rattle.register_names.specs.Names.{registerText};
 
 // 3, 7, and of the arguments record 8 and 9, by 01's table.
 pub enum Refusal {
@@ -43,18 +39,18 @@ fn write_list(
 ) -> Text
     ensures { λ r. ⌜ Said (listTold size first second) (now (out .entry)) (now (out .exit)) (textOutcome r) ⌝ }
 {
-    if operands::lacks_scale(first) {
+    if operand_text::lacks_scale(first) {
         return Text::Refused(Refusal::NoScale);
     }
-    if operands::some_lacks_scale(second) {
+    if operand_text::some_lacks_scale(second) {
         return Text::Refused(Refusal::NoScale);
     }
     let mut nowhere = [0u8; 0];
-    let length = operands::put_list(&mut nowhere, first, second, size);
+    let length = operand_text::put_list(&mut nowhere, first, second, size);
     if out.len() < length {
         return Text::Refused(Refusal::TooLong);
     }
-    operands::put_list(out, first, second, size);
+    operand_text::put_list(out, first, second, size);
     Text::Length(length)
 }
 
@@ -103,11 +99,11 @@ pub fn state_text(machine: MachineState, out: &mut [u8]) -> Text
 {
     let regs = machine.regs;
     let mut nowhere = [0u8; 0];
-    let n = lines::put_state(&mut nowhere, regs);
+    let n = state_lines::put_state(&mut nowhere, regs);
     if out.len() < n {
         return Text::Refused(Refusal::TooLong);
     }
-    lines::put_state(out, regs);
+    state_lines::put_state(out, regs);
     Text::Length(n)
 }
 
@@ -116,10 +112,10 @@ pub fn event_text(event: Event, out: &mut [u8]) -> Text
     ensures { λ r. ⌜ Said (says (eventText event)) (now (out .entry)) (now (out .exit)) (textOutcome r) ⌝ }
 {
     let mut nowhere = [0u8; 0];
-    let n = lines::put_event(&mut nowhere, event);
+    let n = state_lines::put_event(&mut nowhere, event);
     if out.len() < n {
         return Text::Refused(Refusal::TooLong);
     }
-    lines::put_event(out, event);
+    state_lines::put_event(out, event);
     Text::Length(n)
 }

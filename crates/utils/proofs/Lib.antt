@@ -5,3 +5,4 @@ pub mod Product
 pub mod Bytes
 pub mod Outcomes
 pub mod RoundTrip
+pub mod Bools

@@ -1,6 +1,6 @@
 // Words: the ground of the house. A value of the machine is a u64, bit for bit the Rust's i64 (docs/DECISIONS.md, "Values are words").
 // Here stand the conversions of src/utils.rs, sign extension and the wrapping product; specs/ says what fields of bits, sign extension
-// and bytes are, and proofs/ has their laws, each once over offset and width. Every crate stands on this one, and it on none.
+// and bytes are, and proofs/ has their laws, each once over offset and width. Every crate but pieces stands on this one, and it on none.
 // Document 01: "Files, leaves first", 1; "sign-extended" in "Registers and flags"; "Every sum and product is taken modulo 2^64".
 ghost use mathlib.Core.Path.{_≡_};
 ghost use Prim.Native.Nat.{_*_, _%_, _^_, _<_};

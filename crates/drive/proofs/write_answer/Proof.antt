@@ -15,6 +15,6 @@ write-answer-spec =
     (λ c κs. search needs)
     (λ c. search needs)
     (λ c. search needs)
-    (λ c. sym (length-take-le (c .before .before .before .before .before .before .before .args .reply .given) (c .before .before .before .before .before .before .before .args .block .now) (omega arith)))
+    (λ c. sym (length-take-le (c .before .before .before .before .before .before .before .before .args .carried .reply .given) (c .before .before .before .before .before .before .before .before .args .block .now) (omega arith)))
     (λ c κs. search needs)
     (λ c. search needs))

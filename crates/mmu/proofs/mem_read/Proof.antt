@@ -1,6 +1,6 @@
 -- `mem_read` owes what `readOutcome` and `readOut` say: one law of Answers for each of its returns.
 use Rattle.mmu.proofs.Answers.{read-bad, read-long, read-done, read-empty, out-refused, out-done}
-use Rattle.mmu.proofs.Read.{sound-facts}
+use Rattle.store.proofs.Read.{sound-facts}
 use borrow.Author.Tests.{not-true, not-false}
 use native.Mathlib.Omega.{arith}
 use lib.ListN.{length}

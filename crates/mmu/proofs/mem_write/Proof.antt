@@ -1,7 +1,7 @@
 -- `mem_write` owes `Wrote`: one law of Answers for each of its returns.
-use Rattle.mmu.proofs.Answers.{write-bad, write-long, write-full, write-done, wrote-refused-for, wrote-done, wrote-empty, accepted-fits}
-use Rattle.mmu.proofs.Read.{sound-facts}
-use Rattle.mmu.specs.declared.Refusal.the-variants.{BadStore, TooLong, NoRoom}
+use Rattle.mmu.proofs.Answers.{write-bad, write-long, wrote-refused-for, wrote-empty, wrote-there}
+use Rattle.store.proofs.Read.{sound-facts}
+use Rattle.mmu.specs.declared.Refusal.the-variants.{BadStore, TooLong}
 use borrow.Author.Tests.{not-true, not-false}
 use native.Mathlib.Omega.{arith}
 use lib.ListN.{length}
@@ -18,25 +18,16 @@ mem-write-spec =
     (λ c κs. search needs)
     (λ c. search needs)
     (λ c. search needs)
-    (λ c. wrote-refused-for _ _ _ _ BadStore _ (c .refused .ensures) (write-bad _ _ _ (sym (c .before .before .is-store .ensures) ∙ not-true _ (c .before .if1 .taken))))
+    (λ c. wrote-refused-for _ _ _ BadStore _ (c .refused .ensures) (write-bad _ _ _ (sym (c .before .before .is-store .ensures) ∙ not-true _ (c .before .if1 .taken))))
     (λ c κs. search needs)
     (λ c. search needs)
     (λ c. search needs)
-    (λ c. wrote-refused-for _ _ _ _ TooLong _ (c .refused2 .ensures) (write-long _ _ (length (c .before .before .before .before .before .before .before .before .before .args .«data» .now)) (sym (c .before .before .before .is-store .ensures) ∙ not-false _ (c .before .before .if1 .left)) (omega (arith, c .before .if2 .taken))))
+    (λ c. wrote-refused-for _ _ _ TooLong _ (c .refused2 .ensures) (write-long _ _ (length (c .before .before .before .before .before .before .before .before .before .args .«data» .now)) (sym (c .before .before .before .is-store .ensures) ∙ not-false _ (c .before .before .if1 .left)) (omega (arith, c .before .if2 .taken))))
     (λ c. search needs)
     (λ c. search needs)
-    (λ c. wrote-empty _ _ _ (c .before .before .before .before .before .before .before .before .before .args .«data» .now) (sym (c .before .before .before .is-store .ensures) ∙ not-false _ (c .before .before .if1 .left)) (omega (arith, c .if3 .taken, c .before .if2 .left)))
+    (λ c. wrote-empty _ _ (c .before .before .before .before .before .before .before .before .before .args .«data» .now) (sym (c .before .before .before .is-store .ensures) ∙ not-false _ (c .before .before .if1 .left)) (omega (arith, c .if3 .taken, c .before .if2 .left)))
     (λ c κs. sound-facts _ (sym (c .before .before .before .before .before .is-store .ensures) ∙ not-false _ (c .before .before .before .before .if1 .left)))
-    (λ c κs. search needs)
-    (λ c. let h = sound-facts _ (sym (c .before .before .before .before .before .before .before .before .is-store .ensures) ∙ not-false _ (c .before .before .before .before .before .before .before .if1 .left)) in
-    h .fits)
-    (λ c κs. search needs)
+    (λ c κs. (sound-facts _ (sym (c .before .before .before .before .before .before .before .before .is-store .ensures) ∙ not-false _ (c .before .before .before .before .before .before .before .if1 .left)), omega (arith, c .before .before .before .before .before .if3 .left), omega (arith, c .before .before .before .before .before .before .if2 .left)))
     (λ c. search needs)
     (λ c. search needs)
-    (λ c. wrote-refused-for _ _ _ _ NoRoom _ (c .refused3 .ensures) (rw (sym (c .before .before .before .before .translate-virtual-to-physical-address .ensures)) (write-full _ _ (length (c .before .before .before .before .before .before .before .before .before .before .before .before .before .before .before .before .args .«data» .now)) (sym (c .before .before .before .before .before .before .before .before .before .before .is-store .ensures) ∙ not-false _ (c .before .before .before .before .before .before .before .before .before .if1 .left)) (omega (arith, c .before .before .before .before .before .before .before .before .if2 .left)) (omega (arith, c .before .if4 .taken, c .before .before .count-absent .ensures)))))
-    (λ c κs. accepted-fits _ _ (length (c .before .before .before .before .before .before .before .before .before .before .before .before .before .before .before .before .before .args .«data» .now)) (record { sound = sym (c .before .before .before .before .before .before .before .before .before .before .before .is-store .ensures) ∙ not-false _ (c .before .before .before .before .before .before .before .before .before .before .if1 .left); short = omega (arith, c .before .before .before .before .before .before .before .before .before .if2 .left); room = omega (arith, c .before .before .if4 .left, c .before .before .before .count-absent .ensures) }))
-    (λ c κs. search needs)
-    (λ c. search needs)
-    (λ c. search needs)
-    (λ c. wrote-done _ _ _ _ _ _ _ (c .before .before .before .before .before .before .before .before .before .before .before .translate-virtual-to-physical-address .ensures) (write-done _ _ (length (c .before .before .before .before .before .before .before .before .before .before .before .before .before .before .before .before .before .before .before .before .before .before .before .args .«data» .now)) (sym (c .before .before .before .before .before .before .before .before .before .before .before .before .before .before .before .before .before .is-store .ensures) ∙ not-false _ (c .before .before .before .before .before .before .before .before .before .before .before .before .before .before .before .before .if1 .left)) (omega (arith, c .before .before .before .before .before .before .before .before .before .before .before .before .before .before .before .if2 .left)) (omega (arith, c .before .before .before .before .before .before .before .before .if4 .left, c .before .before .before .before .before .before .before .before .before .count-absent .ensures)))
-    (c .before .before .before .before .before .mem-write-phys .ensures) (c .shown-at .ensures)))
+    (λ c. wrote-there (c .before .before .before .before .before .before .before .translate-virtual-to-physical-address .ensures) (c .before .before .before .before .write-at .ensures)))

@@ -1,5 +1,6 @@
 -- `event_text` meets its contract: the line is measured, and then written or refused. Assumes nothing.
 use Rattle.text.proofs.Answering.{too-long, in-room}
+use native.Mathlib.Omega.{arith}
 use borrow.Author.Needs.{needs}
 use Rattle.text.proofs.event_text.Statement.{statement}
 use Rattle.text.proofs.event_text.Tie as tie
@@ -10,7 +11,7 @@ event-text-spec =
     (tie.spec
     (λ c. search needs)
     (λ c κs. search needs)
-    (λ c. too-long (c .before .before .put-event .ensures) (c .if1 .taken))
+    (λ c. too-long (c .before .before .put-event .ensures) (omega arith) (c .if1 .taken))
     (λ c κs. search needs)
     (λ c. search needs)
-    (λ c. in-room (c .before .before .before .before .before .before .put-event .ensures) (c .before .before .before .before .if1 .left) (c .before .before .put-event2 .ensures)))
+    (λ c. in-room (c .before .before .before .before .before .before .put-event .ensures) (omega arith) (c .before .before .before .before .if1 .left) (c .before .before .put-event2 .ensures)))

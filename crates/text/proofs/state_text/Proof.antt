@@ -1,5 +1,6 @@
 -- `state_text` meets its contract: the text is measured, and then written or refused. Assumes nothing.
 use Rattle.text.proofs.Answering.{too-long, in-room}
+use native.Mathlib.Omega.{arith}
 use borrow.Author.Needs.{needs}
 use Rattle.text.proofs.state_text.Statement.{statement}
 use Rattle.text.proofs.state_text.Tie as tie
@@ -10,7 +11,7 @@ state-text-spec =
     (tie.spec
     (λ c. search needs)
     (λ c κs. search needs)
-    (λ c. too-long (c .before .before .put-state .ensures) (c .if1 .taken))
+    (λ c. too-long (c .before .before .put-state .ensures) (omega arith) (c .if1 .taken))
     (λ c κs. search needs)
     (λ c. search needs)
-    (λ c. in-room (c .before .before .before .before .before .before .put-state .ensures) (c .before .before .before .before .if1 .left) (c .before .before .put-state2 .ensures)))
+    (λ c. in-room (c .before .before .before .before .before .before .put-state .ensures) (omega arith) (c .before .before .before .before .if1 .left) (c .before .before .put-state2 .ensures)))

@@ -1,4 +1,4 @@
--- `machine_state::MachineState::compute_flags` meets its contract: the three flags are set one after the other, as in the definition. Assumes nothing.
+-- `compute_flags` meets its contract: rflags become what `fields::computed_flags` says, and all else stays. Assumes nothing.
 use borrow.Author.Needs.{needs}
 use Rattle.machine_state.proofs.MachineState.compute_flags.Statement.{statement}
 use Rattle.machine_state.proofs.MachineState.compute_flags.Tie as tie
@@ -8,8 +8,4 @@ compute-flags-spec =
     tie.close
     (tie.spec
     (λ c κs. search needs)
-    (λ c κs. search needs)
-    (λ c κs. search needs)
-    (λ c κs. search needs)
-    (λ c κs. search needs)
-    (λ c. rw (c .with-flag3 .ensures, c .before .even-parity .ensures, c .before .before .with-flag2 .ensures, c .before .before .before .sign-bit .ensures, c .before .before .before .before .with-flag .ensures)))
+    (λ c. rw (c .computed-flags .ensures)))

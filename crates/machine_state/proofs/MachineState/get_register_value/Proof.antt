@@ -16,4 +16,4 @@ get-register-value-spec =
     (λ c. omega (arith, parent-below (c .before .args .register)))
     (λ c κs. search needs)
     (λ c κs. search needs)
-    (λ c. cc))
+    (λ c. rw (c .before .before .before .get-parent .ensures, c .before .get-part .ensures) at (c .read-part .ensures)))

@@ -21,5 +21,5 @@ set-register-value-spec =
     (λ c κs. search needs)
     (λ c. omega (arith, parent-below (c .before .before .before .before .args .register)))
     (λ c. omega (arith, parent-below (c .before .before .before .before .args .register)))
-    (λ c. ap₂ changed (cc) (simp (lt-ltb (parentOf (c .before .before .before .before .before .args .register)) 17 (omega arith))))
-    (λ c. ap₂ changed (cc) (simp (le-ltb (parentOf (c .before .before .before .before .before .args .register)) 17 (omega arith)))))
+    (λ c. ap₂ changed (rw (c .before .write-part .ensures, c .before .before .get-part .ensures, c .before .before .before .before .get-parent .ensures)) (simp (lt-ltb (parentOf (c .before .before .before .before .before .args .register)) 17 (omega arith))))
+    (λ c. ap₂ changed (rw (c .before .write-part .ensures, c .before .before .get-part .ensures, c .before .before .before .before .get-parent .ensures)) (simp (le-ltb (parentOf (c .before .before .before .before .before .args .register)) 17 (omega arith)))))

@@ -1,5 +1,5 @@
 -- `machine_state::MachineState::stack_push` meets its contract: the write's contract, then rsp moved (Steps, `rsp-after`); the place is rsp less the length. Assumes nothing.
-use Rattle.mmu.specs.Store.{storeOf}
+use Rattle.store.specs.Store.{storeOf}
 use native.Mathlib.Omega.{arith}
 use Rattle.machine_state.specs.Memory.{moved, writeMemory, pushed}
 use Rattle.machine_state.proofs.Steps.{rsp-after, below-is}

@@ -1,7 +1,8 @@
 -- `mem_read_phys` gives `readAt`: after each turn the first `done` bytes of out are those from p on (Turns.read-step).
+use Rattle.runs.specs.Runs.{filled}
 use Rattle.mmu.proofs.Turns.{reached-first, reached-next, read-step, read-end}
-use Rattle.mmu.specs.Parts.{Reached, bytesFrom}
-use Rattle.mmu.specs.Store.{storeOf, filled}
+use Rattle.store.specs.Store.{bytesFrom, storeOf}
+use Rattle.mmu.specs.Parts.{Reached}
 use lib.ListN.{length}
 use native.Mathlib.Omega.{arith}
 use borrow.Author.Needs.{needs}

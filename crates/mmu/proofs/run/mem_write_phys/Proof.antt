@@ -2,7 +2,7 @@
 use Rattle.mmu.proofs.Turns.{reached-first, reached-next, ready-part, write-step}
 use Rattle.mmu.specs.Parts.{Reached}
 use Rattle.mmu.specs.Calls.{byteOf}
-use Rattle.mmu.specs.Store.{storeOf, written}
+use Rattle.store.specs.Store.{storeOf, written}
 use lib.ListN.{length}
 use native.Mathlib.Omega.{arith}
 use mathlib.Core.Path.{_≡_, refl, ap, _∙_}

@@ -1,7 +1,7 @@
 -- `walk` gives `walked`, by recursion: the measure is the level.
 use mathlib.Core.Path.{ap, _∙_}
 use native.Mathlib.Omega.{arith}
-use Rattle.mmu.specs.Store.{storeOf}
+use Rattle.store.specs.Store.{storeOf}
 use Rattle.mmu.specs.Walk.{walked}
 use Rattle.mmu.proofs.Walked.{walked-end, walked-step}
 use Prim.Native.Nat.{ℕ, _<_, _-_}

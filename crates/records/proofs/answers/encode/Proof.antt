@@ -1,7 +1,7 @@
 -- `encode` gives `encoded`: the eight words fill the 64 bytes. Assumes nothing.
 use native.Mathlib.Omega.{arith}
 use Rattle.records.specs.Answers.{encoded}
-use Rattle.records.proofs.Runs.{put-was, room-yes}
+use Rattle.runs.proofs.Puts.{put-was, room-yes}
 use borrow.Author.Needs.{needs}
 use Rattle.records.proofs.answers.encode.Statement.{statement}
 use Rattle.records.proofs.answers.encode.Tie as tie

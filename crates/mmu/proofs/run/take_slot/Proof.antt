@@ -1,0 +1,19 @@
+-- `take_slot` gives `taken`: one store into the directory, and a page of zeros.
+use native.Mathlib.Numerals.{add-one}
+use native.Mathlib.Omega.{arith}
+use borrow.Author.Needs.{needs}
+use Rattle.runs.proofs.Puts.{put-was, room-yes}
+use Rattle.mmu.proofs.run.take_slot.Statement.{statement}
+use Rattle.mmu.proofs.run.take_slot.Tie as tie
+
+pub take-slot-spec : {M : Type 1} → statement M
+take-slot-spec =
+    tie.close
+    (tie.spec
+    (λ c. search needs)
+    (λ c. search needs)
+    (λ c. search needs)
+    (λ c κs. search needs)
+    (λ c. search needs)
+    (λ c. search needs)
+    (λ c. rw (add-one (c .before .before .before .before .before .before .args .used), put-was (c .before .before .fill .ensures) (room-yes _ _ _ (omega (arith, c .before .before .before .before .before .before .pre .0 .sized, c .before .before .before .before .before .before .pre .1))))))

@@ -1,0 +1,17 @@
+-- `put_base` meets its contract, by cases on the base. Assumes nothing.
+use Rattle.pieces.proofs.Writing.{nothing}
+use native.Mathlib.Omega.{arith}
+use borrow.Author.Needs.{needs}
+use Rattle.operand_text.proofs.put_base.Statement.{statement}
+use Rattle.operand_text.proofs.put_base.Tie as tie
+
+returns : tie.Need-returns
+returns c = rw (c .enum-told .given .1) (nothing (omega arith))
+
+returns-2 : tie.Need-returns-2
+returns-2 c = rw (c .before .before .before .before .before .base .given .1) (c .before .before .put-register .ensures)
+
+pub put-base-spec : {M : Type 1} → statement M
+put-base-spec =
+    tie.close
+    (tie.spec (λ c. search needs) (λ c. search needs) (λ c κs. search needs) returns (λ c. search needs) returns-2)

@@ -1,0 +1,66 @@
+-- The text of operands (01, "Text"), and which operands have none.
+use mathlib.Core.Bool.{Bool, true, false}
+use mathlib.Core.List.{List, [], _++_}
+use Prim.Native.Nat.{ℕ, suc, _*_}
+use lib.IntN.{ℤ, pos, negsuc}
+use Rattle.utils.specs.Word.{cut}
+use Rattle.instruction_set.specs.Sizes.{bytesOf}
+use Rattle.instruction_set.specs.declared.ArgumentSize.{ArgumentSize}
+use Rattle.instruction_set.specs.declared.InstructionArgument.{InstructionArgument}
+use Rattle.instruction_set.specs.declared.InstructionArgument.the-variants as arg
+use Rattle.instruction_set.specs.declared.Register.{Register}
+use Rattle.instruction_set.specs.declared.SomeArgument.{SomeArgument}
+use Rattle.instruction_set.specs.declared.SomeArgument.the-variants as some
+use Rattle.instruction_set.specs.declared.SomeRegister.{SomeRegister}
+use Rattle.instruction_set.specs.declared.SomeRegister.the-variants as reg
+use Rattle.instruction_set.specs.declared.SomeScale.{SomeScale}
+use Rattle.instruction_set.specs.declared.SomeScale.the-variants as scale
+use Rattle.pieces.specs.Ascii.{ascii, decimalText}
+use Rattle.pieces.specs.Hex.{hexText}
+use Rattle.register_names.specs.Names.{registerText}
+
+-- "Immediate: `$0x` and hex cut to the size"
+abbrev pub immediateText : ArgumentSize → ℕ → List ℕ
+immediateText size v = ascii "$0x" ++ hexText (cut v 0 (8 * bytesOf size))
+
+-- "signed hex displacement (`0x0` for 0)"
+abbrev pub displacementText : ℤ → List ℕ
+displacementText (pos n) = ascii "0x" ++ hexText n
+displacementText (negsuc n) = ascii "-0x" ++ hexText (suc n)
+
+abbrev pub baseText : SomeRegister → List ℕ
+baseText reg.Absent = []
+baseText (reg.Present b) = registerText b
+
+abbrev pub scaleText : SomeScale → List ℕ
+scaleText scale.Absent = []
+scaleText (scale.Present s) = decimalText s
+
+-- "then nothing, `(base)`, `(base,index,scale)` or `(,index,scale)`"
+abbrev pub addressText : SomeRegister → SomeRegister → SomeScale → List ℕ
+addressText reg.Absent reg.Absent s = []
+addressText (reg.Present b) reg.Absent s = ascii "(" ++ registerText b ++ ascii ")"
+addressText b (reg.Present i) s = ascii "(" ++ baseText b ++ ascii "," ++ registerText i ++ ascii "," ++ scaleText s ++ ascii ")"
+
+-- one operand at a size; a register and an address ignore it
+abbrev pub operandText : ArgumentSize → InstructionArgument → List ℕ
+operandText size (arg.Immediate v) = immediateText size v
+operandText size (arg.Register r) = registerText r
+operandText size (arg.EffectiveAddress b i s d) = displacementText d ++ addressText b i s
+
+-- "Two operands are joined by a comma"
+abbrev pub listText : ArgumentSize → InstructionArgument → SomeArgument → List ℕ
+listText size x some.Absent = operandText size x
+listText size x (some.Present y) = operandText size x ++ ascii "," ++ operandText size y
+
+-- 3: "an index has no scale, where it is used"; a scale without an index is not shown
+abbrev pub lacksScale : InstructionArgument → Bool
+lacksScale (arg.Immediate v) = false
+lacksScale (arg.Register r) = false
+lacksScale (arg.EffectiveAddress b reg.Absent s d) = false
+lacksScale (arg.EffectiveAddress b (reg.Present i) scale.Absent d) = true
+lacksScale (arg.EffectiveAddress b (reg.Present i) (scale.Present s) d) = false
+
+abbrev pub someLacksScale : SomeArgument → Bool
+someLacksScale some.Absent = false
+someLacksScale (some.Present x) = lacksScale x

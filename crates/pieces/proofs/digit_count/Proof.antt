@@ -1,0 +1,16 @@
+-- `digit_count` meets its contract: a word has at most 64 leading zeros. Assumes nothing.
+use native.Mathlib.Omega.{arith}
+use borrow.Author.Needs.{needs}
+use lib.Count.{leading-le}
+use Rattle.pieces.proofs.digit_count.Statement.{statement}
+use Rattle.pieces.proofs.digit_count.Tie as tie
+
+pub digit-count-spec : {M : Type 1} → statement M
+digit-count-spec =
+    tie.close
+    (tie.spec
+    (λ c. omega (arith, leading-le 64 (c .args .x)))
+    (λ c. search needs)
+    (λ c. search needs)
+    (λ c. search needs)
+    (λ c. search needs))

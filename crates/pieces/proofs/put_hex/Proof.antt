@@ -1,0 +1,12 @@
+-- `put_hex` meets its contract: least width is a fixed width, that of `digit_count`. Assumes nothing.
+use borrow.Author.Needs.{needs}
+use Rattle.pieces.proofs.put_hex.Statement.{statement}
+use Rattle.pieces.proofs.put_hex.Tie as tie
+
+returns : tie.Need-returns
+returns c = rw (c .before .before .before .digit-count .ensures) at (c .before .before .put-digits .ensures)
+
+pub put-hex-spec : {M : Type 1} → statement M
+put-hex-spec =
+    tie.close
+    (tie.spec (λ c κs. search needs) (λ c κs. search needs) (λ c. search needs) returns)

@@ -1,0 +1,16 @@
+-- `event_register` gives `eventRegister`: each arm is a clause. Assumes nothing.
+use borrow.Author.Needs.{needs}
+use Rattle.records.proofs.codes.event_register.Statement.{statement}
+use Rattle.records.proofs.codes.event_register.Tie as tie
+
+pub event-register-spec : {M : Type 1} → statement M
+event-register-spec =
+    tie.close
+    (tie.spec
+    (λ c. search needs)
+    (λ c. search needs)
+    (λ c κs. search needs)
+    (λ c. search needs)
+    (λ c. search needs)
+    (λ c. rw (c .before .before .event .given .1) (c .register-number .ensures .0))
+    (λ c. search needs))

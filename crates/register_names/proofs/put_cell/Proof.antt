@@ -1,0 +1,56 @@
+-- `put_cell` meets its contract. The loop's invariant: what is left to write is the name from byte k of the cell on. Assumes nothing.
+use mathlib.Core.Path.{_≡_, sym, _∙_}
+use Prim.Native.Nat.{_+_, _-_, _*_, _≤_}
+use native.Mathlib.Nat.{add-zero}
+use native.Mathlib.Omega.{arith}
+use borrow.Author.Needs.{needs}
+use Rattle.register_names.specs.Names.{nameFrom, nameAt}
+use Rattle.register_names.proofs.Cells.{from-space, from-pos, from-most}
+use Rattle.pieces.proofs.Writing.{Rest, begin, onward, finish, same-long}
+use Rattle.register_names.proofs.put_cell.Statement.{statement}
+use Rattle.register_names.proofs.put_cell.Tie as tie
+
+abbrev Inv-loop : tie.InvT-loop
+Inv-loop out₀ at n o₀ k₀ out o k = Rest out₀ at (nameAt n) out o (nameFrom (4 - k) (4 * n + k)) × (k ≤ 4)
+
+abbrev μ-loop : tie.MeasureT-loop
+μ-loop out₀ at n o₀ k₀ out o k = 4 - k
+
+loop-again : tie.Need-loop-again Inv-loop μ-loop
+loop-again c =
+    let l = c .before .before .before .before .before .before .before .loop in
+    let n = c .before .before .before .before .before .before .before .before .before .args .n in
+    let b = c .before .before .before .before .before .name-byte .ensures in
+    let ne = c .before .before .before .before .if1 .left in
+    let p = rw b at (c .before .before .put-byte .ensures) in
+    let e : 4 - l .k - 1 ≡ 4 - (l .k + 1) = omega arith in
+    let f : 4 * n + l .k + 1 ≡ 4 * n + (l .k + 1) = omega arith in (
+      rw (e, f) at (onward (rw (from-pos (4 - l .k) (4 * n + l .k) (omega arith) (λ h. ne (b ∙ h))) at (l .inv .0)) p),
+      omega arith,
+    )
+
+pub put-cell-spec : {M : Type 1} → statement M
+unfolding nameFrom
+put-cell-spec =
+    tie.close
+    (tie.spec
+    Inv-loop
+    μ-loop
+    (λ c. (rw add-zero (begin (omega arith)), omega arith))
+    (λ c. omega arith)
+    (λ c. omega arith)
+    (λ c κs. omega arith)
+    (λ c. same-long (c .before .before .before .loop .inv .0))
+    (λ c.
+    let l = c .before .before .before .loop in
+    let n = c .before .before .before .before .before .args .n in
+    finish (rw (from-space (4 - l .k) (4 * n + l .k) (sym (c .before .name-byte .ensures) ∙ c .if1 .taken)) at (l .inv .0)) (from-most 4 (4 * n)))
+    (λ c κs. search needs)
+    (λ c. omega arith)
+    (λ c. omega arith)
+    loop-again
+    (λ c. same-long (c .before .loop .inv .0))
+    (λ c.
+    let l = c .before .loop in
+    let z : l .k ≡ 4 = omega arith in
+    finish (rw z at (l .inv .0)) (from-most 4 (4 * c .before .before .before .args .n))))

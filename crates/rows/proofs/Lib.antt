@@ -1,0 +1,7 @@
+pub mod Forgotten
+pub mod Within
+pub mod Places
+pub mod Owed
+pub mod Inside
+pub mod Theorem
+pub mod Whole

@@ -1,0 +1,11 @@
+-- `rows::flag_span` meets its contract, by that of `flag_place`. Assumes nothing.
+use borrow.Author.Needs.{needs}
+use Rattle.rows.proofs.flag_span.Statement.{statement}
+use Rattle.rows.proofs.flag_span.Tie as tie
+
+pub flag-span-spec : {M : Type 1} → statement M
+flag-span-spec =
+    tie.close
+    (tie.spec
+    (λ c κs. search needs)
+    (λ c. rw (c .flag-place .ensures)))

@@ -1,0 +1,274 @@
+// What each call reads and rewrites: the rows of 01's table. A place is one byte of a register or one flag; a call's row is the spans of places that
+// it reads, and of those that it rewrites. Below is calls, which says what each call does; this crate proves the rows of that, and from them the
+// theorem on forgotten readers for every list of calls. Above are exposed, which reports the places that a list takes for granted, and promises,
+// which states demand 3.
+// Document 01: "Places and calls".
+use calls::Call;
+use instruction_set::Flags;
+use instruction_set::InstructionArgument;
+use instruction_set::Part;
+use instruction_set::Register;
+use instruction_set::SomeRegister;
+ghost use mathlib.Core.Path.{_≡_};
+ghost use Rattle.instruction_set.specs.Registers.{firstOf, readsOf as lanesRead, rewritesOf as lanesRewritten};
+ghost use Rattle.rows.specs.Rows.{flagPlace, spans, none, readSpan, rewriteSpan, partSpan, flagSpan, operandReads, addressReads, operandRewrites, readsOf, rewritesOf};
+
+// count places from start on
+pub struct Span {
+    pub start: usize,
+    pub count: usize,
+}
+
+// What a call reads, or rewrites: at most four spans; a span of no places stands for none.
+pub struct Spans {
+    pub one: Span,
+    pub two: Span,
+    pub three: Span,
+    pub four: Span,
+}
+
+fn first_lane(part: Part) -> usize
+    ensures { λ r. ⌜ r ≡ firstOf part ⌝ }
+{
+    match part {
+        Part::Whole => 0,
+        Part::Low32 => 0,
+        Part::Low16 => 0,
+        Part::Low8 => 0,
+        Part::High8 => 1,
+        Part::Nothing => 0,
+    }
+}
+
+fn lanes_read(part: Part) -> usize
+    ensures { λ r. ⌜ r ≡ lanesRead part ⌝ }
+{
+    match part {
+        Part::Whole => 8,
+        Part::Low32 => 4,
+        Part::Low16 => 2,
+        Part::Low8 => 1,
+        Part::High8 => 1,
+        Part::Nothing => 0,
+    }
+}
+
+fn lanes_rewritten(part: Part) -> usize
+    ensures { λ r. ⌜ r ≡ lanesRewritten part ⌝ }
+{
+    match part {
+        Part::Whole => 8,
+        Part::Low32 => 8,
+        Part::Low16 => 2,
+        Part::Low8 => 1,
+        Part::High8 => 1,
+        Part::Nothing => 0,
+    }
+}
+
+fn read_span(register: Register) -> Span
+    ensures { λ r. ⌜ r ≡ readSpan register ⌝ }
+{
+    let part = instruction_set::get_part(register);
+    Span {
+        start: 8 * instruction_set::get_parent(register) + first_lane(part),
+        count: lanes_read(part),
+    }
+}
+
+fn rewrite_span(register: Register) -> Span
+    ensures { λ r. ⌜ r ≡ rewriteSpan register ⌝ }
+{
+    let part = instruction_set::get_part(register);
+    Span {
+        start: 8 * instruction_set::get_parent(register) + first_lane(part),
+        count: lanes_rewritten(part),
+    }
+}
+
+fn part_span(register: SomeRegister) -> Span
+    ensures { λ r. ⌜ r ≡ partSpan register ⌝ }
+{
+    match register {
+        SomeRegister::Absent => Span { start: 0, count: 0 },
+        SomeRegister::Present(name) => read_span(name),
+    }
+}
+
+fn flag_place(flag: Flags) -> usize
+    ensures { λ r. ⌜ r ≡ flagPlace flag ⌝ }
+{
+    match flag {
+        Flags::Carry => 176,
+        Flags::Parity => 177,
+        Flags::Zero => 178,
+        Flags::Sign => 179,
+        Flags::Direction => 180,
+        Flags::Overflow => 181,
+    }
+}
+
+fn flag_span(flag: Flags) -> Span
+    ensures { λ r. ⌜ r ≡ flagSpan flag ⌝ }
+{
+    Span {
+        start: flag_place(flag),
+        count: 1,
+    }
+}
+
+fn two_spans(one: Span, two: Span) -> Spans
+    ensures { λ r. ⌜ r ≡ spans one two none none ⌝ }
+{
+    let none = Span { start: 0, count: 0 };
+    Spans {
+        one,
+        two,
+        three: none,
+        four: none,
+    }
+}
+
+fn one_span(one: Span) -> Spans
+    ensures { λ r. ⌜ r ≡ spans one none none none ⌝ }
+{
+    two_spans(one, Span { start: 0, count: 0 })
+}
+
+fn no_spans() -> Spans
+    ensures { λ r. ⌜ r ≡ spans none none none none ⌝ }
+{
+    one_span(Span { start: 0, count: 0 })
+}
+
+// The base and index lanes of a memory operand, and what its call reads besides; a register or an immediate has none of these.
+fn address_reads(argument: InstructionArgument, besides: Span) -> Spans
+    ensures { λ r. ⌜ r ≡ addressReads argument besides ⌝ }
+{
+    match argument {
+        InstructionArgument::Immediate { immediate: _ } => no_spans(),
+        InstructionArgument::Register { register: _ } => no_spans(),
+        InstructionArgument::EffectiveAddress {
+            base,
+            index,
+            scale: _,
+            displacement: _,
+        } => Spans {
+            one: part_span(base),
+            two: part_span(index),
+            three: besides,
+            four: Span { start: 0, count: 0 },
+        },
+    }
+}
+
+fn operand_reads(argument: InstructionArgument) -> Spans
+    ensures { λ r. ⌜ r ≡ operandReads argument ⌝ }
+{
+    match argument {
+        InstructionArgument::Immediate { immediate: _ } => no_spans(),
+        InstructionArgument::Register { register } => one_span(read_span(register)),
+        InstructionArgument::EffectiveAddress {
+            base: _,
+            index: _,
+            scale: _,
+            displacement: _,
+        } => {
+            address_reads(
+                argument,
+                Span {
+                    start: 152,
+                    count: 8,
+                },
+            )
+        }
+    }
+}
+
+fn operand_rewrites(argument: InstructionArgument) -> Spans
+    ensures { λ r. ⌜ r ≡ operandRewrites argument ⌝ }
+{
+    match argument {
+        InstructionArgument::Immediate { immediate: _ } => no_spans(),
+        InstructionArgument::Register { register } => one_span(rewrite_span(register)),
+        InstructionArgument::EffectiveAddress {
+            base: _,
+            index: _,
+            scale: _,
+            displacement: _,
+        } => no_spans(),
+    }
+}
+
+// What a call reads.
+pub fn reads_of(call: Call) -> Spans
+    ensures { λ r. ⌜ r ≡ readsOf call ⌝ }
+{
+    let rsp = Span {
+        start: 32,
+        count: 8,
+    };
+    let cr3 = Span {
+        start: 152,
+        count: 8,
+    };
+    match call {
+        Call::ReadOperand { argument, size: _ } => operand_reads(argument),
+        Call::WriteOperand {
+            argument,
+            size: _,
+            value: _,
+        } => address_reads(argument, cr3),
+        Call::EffectiveAddress { argument } => address_reads(argument, Span { start: 0, count: 0 }),
+        Call::Push => two_spans(rsp, cr3),
+        Call::Pop => two_spans(rsp, cr3),
+        Call::ReadMemory { address: _ } => one_span(cr3),
+        Call::WriteMemory { address: _ } => one_span(cr3),
+        Call::TestFlag { flag } => one_span(flag_span(flag)),
+        Call::SetFlag { flag: _, value: _ } => no_spans(),
+        Call::ComputeFlags { result: _, size: _ } => no_spans(),
+    }
+}
+
+// What a call rewrites.
+pub fn rewrites_of(call: Call) -> Spans
+    ensures { λ r. ⌜ r ≡ rewritesOf call ⌝ }
+{
+    let rsp = Span {
+        start: 32,
+        count: 8,
+    };
+    match call {
+        Call::ReadOperand {
+            argument: _,
+            size: _,
+        } => no_spans(),
+        Call::WriteOperand {
+            argument,
+            size: _,
+            value: _,
+        } => operand_rewrites(argument),
+        Call::EffectiveAddress { argument: _ } => no_spans(),
+        Call::Push => one_span(rsp),
+        Call::Pop => one_span(rsp),
+        Call::ReadMemory { address: _ } => no_spans(),
+        Call::WriteMemory { address: _ } => no_spans(),
+        Call::TestFlag { flag: _ } => no_spans(),
+        Call::SetFlag { flag, value: _ } => one_span(flag_span(flag)),
+        Call::ComputeFlags { result: _, size: _ } => Spans {
+            one: Span {
+                start: 177,
+                count: 1,
+            },
+            two: Span {
+                start: 178,
+                count: 1,
+            },
+            three: Span {
+                start: 179,
+                count: 1,
+            },
+            four: Span { start: 0, count: 0 },
+        },
+    }
+}

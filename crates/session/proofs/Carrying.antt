@@ -1,0 +1,40 @@
+-- What is left: a call's answer as a record's, and a record that leaves the machine. By the equations of the contracts below. Assumes nothing.
+use mathlib.Core.List.{List, []}
+use mathlib.Core.Path.{_≡_, refl, sym, ap, subst, _∙_}
+use Prim.Native.Nat.{ℕ}
+use Rattle.store.specs.Store.{Store, storeOf}
+use Rattle.machine_state.specs.Answers.{After, left}
+use Rattle.machine_state.specs.declared.Answered.{Answered}
+use Rattle.machine_state.specs.declared.MachineState.{MachineState}
+use Rattle.calls.specs.Step.{beside}
+use Rattle.records.specs.declared.Header.{Header}
+use Rattle.records.specs.declared.Reply.{Reply}
+use Rattle.session.specs.CarriesOut.{Leaves, still, Tells, CarriesOut, carriedBy}
+use Rattle.session.specs.CarriesOut as carries
+use Rattle.session.specs.Replies.{replyOf}
+use Rattle.session.specs.Shows.{Shows}
+use Rattle.session.specs.declared.Carried.{Carried}
+
+pub call-left : {a : After} (x : Answered) {dir bytes lent : List ℕ} {g : ℕ} {c : Carried} → left x dir bytes lent ≡ a → c ≡ carriedBy x g → Leaves a g c (storeOf dir bytes (c .used)) lent
+call-left x {dir} {bytes} {g = g} e k = record {
+  machine = ap (λ (c : Carried). c .machine) k ∙ ap (λ (a : After). a .machine) e;
+  event = ap (λ (c : Carried). c .event) k ∙ ap (λ (a : After). a .event) e;
+  reply = ap (λ (c : Carried). c .reply) k ∙ ap (λ (a : After). replyOf (a .outcome) g) e;
+  store = ap (λ (c : Carried). storeOf dir bytes (c .used)) k ∙ ap (λ (a : After). a .store) e;
+  lent = ap (λ (a : After). a .lent) e;
+}
+
+-- a call to which nothing is lent
+pub beside-left : {a : After} (x : Answered) {dir bytes l : List ℕ} {g : ℕ} {c : Carried} → left x dir bytes [] ≡ a → c ≡ carriedBy x g → Leaves (beside l a) g c (storeOf dir bytes (c .used)) l
+beside-left x e k =
+    let w = call-left x e k in
+    record { machine = w .machine; event = w .event; reply = w .reply; store = w .store; lent = refl }
+
+pub told-still : {h : Header} {m : MachineState} {dir bytes l l′ : List ℕ} {u : ℕ} {c : Carried} (r : Reply)
+    → Tells h m l r l′ → c ≡ still m u r → CarriesOut h m (storeOf dir bytes u) l c (storeOf dir bytes (c .used)) l′
+told-still {dir = dir} {bytes} r t e = carries.tell r t e (ap (λ (c : Carried). storeOf dir bytes (c .used)) e)
+
+pub shown-still : {h : Header} {m : MachineState} {dir bytes bytes′ l l′ : List ℕ} {u : ℕ} {c : Carried} (r : Reply)
+    → Shows h (storeOf dir bytes u) l r (storeOf dir bytes′ u) l′ → c ≡ still m u r → CarriesOut h m (storeOf dir bytes u) l c (storeOf dir bytes′ (c .used)) l′
+shown-still {h} {dir = dir} {bytes} {bytes′} {l} {l′} {u} r w e =
+    carries.show r (subst (λ (v : ℕ). Shows h (storeOf dir bytes u) l r (storeOf dir bytes′ v) l′) (sym (ap (λ (c : Carried). c .used) e)) w) e

@@ -1,0 +1,6 @@
+pub mod Replying
+pub mod Accessing
+pub mod Showing
+pub mod Reporting
+pub mod Starting
+pub mod Carrying

@@ -1,0 +1,32 @@
+-- Replies: what a truth is as a byte, and what `Put` says of bytes that are given. By cases. Assumes nothing.
+use mathlib.Core.Bool.{Bool, true, false, not, cond}
+use mathlib.Core.List.{List, []}
+use mathlib.Core.Path.{_≡_, refl, sym, ap, _∙_}
+use Prim.Native.Nat.{ℕ}
+use lib.ListN.{length}
+use mir.Val.{boolByte}
+use borrow.Author.Tests.{not-true, not-false}
+use Rattle.utils.specs.Outcome.{Outcome, gives}
+use Rattle.machine_state.specs.Memory.{passed}
+use Rattle.machine_state.specs.declared.MachineState.{MachineState}
+use Rattle.text.specs.Answers.{Told, Said}
+use Rattle.runs.specs.Runs.{Put}
+use Rattle.records.specs.declared.Header.{Header}
+use Rattle.records.specs.declared.Reply.{Reply}
+use Rattle.session.specs.Replies.{replyOf, noReply, Given}
+use Rattle.session.specs.Texts.{Asks, Texts, text}
+
+pub bool-byte : (b : Bool) → boolByte b ≡ cond b 1 0
+bool-byte true = refl
+bool-byte false = refl
+
+-- bytes are put where there is room for them, and not where there is none
+pub given-none : {ok b : Bool} {g at n : ℕ} {d d′ : List ℕ} {f : ℕ → ℕ} {r : Reply} → Put ok d at f n d′ b → not b ≡ true → r ≡ noReply → Given ok g d at f n r d′
+given-none {b = b} p t e = record { reply = rw (sym (p .done) ∙ not-true b t) e; bytes = p .bytes }
+
+pub given-done : {ok b : Bool} {g at n : ℕ} {d d′ : List ℕ} {f : ℕ → ℕ} {r : Reply} → Put ok d at f n d′ b → not b ≡ false → r ≡ replyOf (gives []) g → Given ok g d at f n r d′
+given-done {b = b} p t e = record { reply = rw (sym (p .done) ∙ not-false b t) e; bytes = p .bytes }
+
+-- a text that was said is the one that was asked for
+pub texted : {h : Header} {m : MachineState} {l l′ : List ℕ} {r : Reply} {o : Outcome ℕ} (t : Told) → Asks h m t → Said t l l′ o → r ≡ replyOf (passed o) (length l) → Texts h m l r l′
+texted {l = l} t a s e = text t a (e ∙ ap (λ (x : Outcome ℕ). replyOf (passed x) (length l)) (s .answer)) (s .bytes)

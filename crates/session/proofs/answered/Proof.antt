@@ -1,0 +1,7 @@
+-- `answered` keeps what the call left. Assumes nothing.
+use borrow.Author.Needs.{needs}
+use Rattle.session.proofs.answered.Statement.{statement}
+use Rattle.session.proofs.answered.Tie as tie
+
+pub answered-spec : {M : Type 1} → statement M
+answered-spec = tie.close (tie.spec (λ c κs. search needs) (λ c. rw (c .reply-of .ensures)))

@@ -1,0 +1,12 @@
+-- `malformed` leaves the machine and the count, with the reply of `none`. Assumes nothing.
+use borrow.Author.Needs.{needs}
+use Rattle.session.proofs.malformed.Statement.{statement}
+use Rattle.session.proofs.malformed.Tie as tie
+
+pub malformed-spec : {M : Type 1} → statement M
+malformed-spec =
+    tie.close
+    (tie.spec
+    (λ c κs. search needs)
+    (λ c κs. search needs)
+    (λ c. rw (c .before .none .ensures) at (c .still .ensures)))

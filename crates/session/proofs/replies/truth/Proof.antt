@@ -1,0 +1,8 @@
+-- `truth` says yes or no as 1 or 0. Assumes nothing.
+use Rattle.session.proofs.Replying.{bool-byte}
+use borrow.Author.Needs.{needs}
+use Rattle.session.proofs.replies.truth.Statement.{statement}
+use Rattle.session.proofs.replies.truth.Tie as tie
+
+pub truth-spec : {M : Type 1} → statement M
+truth-spec = tie.close (tie.spec (λ c. search needs) (λ c. rw (bool-byte (c .args .truth))))

@@ -1,0 +1,7 @@
+-- `nothing` is no start. Assumes nothing.
+use borrow.Author.Needs.{needs}
+use Rattle.session.proofs.reset.nothing.Statement.{statement}
+use Rattle.session.proofs.reset.nothing.Tie as tie
+
+pub nothing-spec : {M : Type 1} → statement M
+nothing-spec = tie.close (tie.spec (λ c κs. search needs) (λ c. rw (c .new .ensures)))

@@ -1,0 +1,38 @@
+-- Kinds 16 to 18 (docs/FORMAT.md): size selection, one-argument and two-argument access of an arguments record.
+use mathlib.Core.List.{List, [], _∷_, _++_, map}
+use mathlib.Core.Path.{_≡_}
+use Prim.Native.Nat.{ℕ}
+use Rattle.utils.specs.Outcome.{Outcome, refuses}
+use Rattle.instruction_set.specs.Arguments.{selectedSize, oneArgument, twoArguments}
+use Rattle.instruction_set.specs.declared.ArgumentSize.{ArgumentSize}
+use Rattle.instruction_set.specs.declared.InstructionArgument.{InstructionArgument}
+use Rattle.instruction_set.specs.declared.InstructionArguments.{InstructionArguments}
+use Rattle.machine_state.specs.Answers.{Value, word}
+use Rattle.records.specs.Answers.{operandWords}
+use Rattle.records.specs.Means.{ArgumentsMean}
+use Rattle.numbers.specs.Numbers.{sizeNumber}
+use Rattle.records.specs.declared.Header.{Header}
+use Rattle.records.specs.declared.Reply.{Reply}
+use Rattle.session.specs.Replies.{replyOf, noReply, WordsGiven}
+
+-- "a size is its number"
+abbrev pub numbered : Outcome ArgumentSize → Outcome Value
+numbered o = record { number = o .number; values = map (λ (z : ArgumentSize). word (sizeNumber z)) (o .values) }
+
+-- "the five words of each operand that it gives"
+abbrev pub wordsOf : List InstructionArgument → List ℕ
+wordsOf [] = []
+wordsOf (a ∷ rest) = operandWords a ++ wordsOf rest
+
+abbrev pub OperandsGiven : Outcome InstructionArgument → List ℕ → Reply → List ℕ → Type 0
+OperandsGiven o l r l′ = pick (o .values)
+  where
+    pick : List InstructionArgument → Type 0
+    pick [] = (r ≡ replyOf (refuses (o .number)) 0) × (l′ ≡ l)
+    pick (a ∷ rest) = WordsGiven (wordsOf (a ∷ rest)) l r l′
+
+pub data Accesses (h : Header) (l : List ℕ) (r : Reply) (l′ : List ℕ) : Type 0 where
+  none : r ≡ noReply → l′ ≡ l → Accesses h l r l′
+  size : (a : InstructionArguments) → h .kind ≡ 16 → ArgumentsMean h (h .b) (h .c) a → r ≡ replyOf (numbered (selectedSize a)) 0 → l′ ≡ l → Accesses h l r l′
+  one : (a : InstructionArguments) → h .kind ≡ 17 → ArgumentsMean h (h .b) (h .c) a → OperandsGiven (oneArgument a) l r l′ → Accesses h l r l′
+  two : (a : InstructionArguments) → h .kind ≡ 18 → ArgumentsMean h (h .b) (h .c) a → OperandsGiven (twoArguments a) l r l′ → Accesses h l r l′

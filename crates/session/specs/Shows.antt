@@ -1,0 +1,46 @@
+-- Kinds 20 and 25 to 28 (docs/FORMAT.md): the page view, the load and the shows.
+use mathlib.Core.Bool.{cond, _&&_}
+use mathlib.Core.List.{List, [], _∷_}
+use mathlib.Core.Path.{_≡_}
+use Prim.Native.Nat.{ℕ, _-_, _%_}
+use lib.Dec.{ltb}
+use lib.ListN.{length, set, replicate}
+use Rattle.utils.specs.Outcome.{gives, refuses}
+use Rattle.store.specs.View.{viewOf}
+use Rattle.store.specs.Store.{Store, storeOf}
+use Rattle.machine_state.specs.declared.MachineState.{MachineState}
+use Rattle.runs.specs.Runs.{room, over, laneIn, bytesOf}
+use Rattle.records.specs.declared.Header.{Header}
+use Rattle.records.specs.declared.Reply.{Reply}
+use Rattle.session.specs.Replies.{replyOf, noReply, Given, WordsGiven}
+
+-- "The lent page of zeros has as many bytes as word 7 says; its last is word 10, the others 0"
+abbrev pub zerosOf : ℕ → ℕ → List ℕ
+zerosOf z v = set (replicate z 0) (z - 1) (v % 256)
+
+-- n of some bytes from a place on
+abbrev pub BytesGiven : List ℕ → ℕ → ℕ → List ℕ → Reply → List ℕ → Type 0
+BytesGiven b from n l r l′ = Given (room (length b) from n && room (length l) 0 n) n l 0 (bytesOf b from) n r l′
+
+-- a part of a view; an empty view is refusal 4
+abbrev pub ViewGiven : List ℕ → ℕ → ℕ → List ℕ → Reply → List ℕ → Type 0
+ViewGiven [] from n l r l′ = (r ≡ replyOf (refuses 4) 0) × (l′ ≡ l)
+ViewGiven (b ∷ bs) from n l r l′ = BytesGiven (b ∷ bs) from n l r l′
+
+-- the machine's 25 words: "22 parents in 01's order, rflags, gdt, idt"
+abbrev pub machineByte : MachineState → ℕ → ℕ
+machineByte m k = cond (ltb k 176) (laneIn (m .regs) k) (laneIn (m .rflags ∷ m .gdt ∷ m .idt ∷ []) (k - 176))
+
+abbrev pub MachineGiven : MachineState → List ℕ → Reply → List ℕ → Type 0
+MachineGiven m l r l′ = Given (room (length l) 0 200) 200 l 0 (machineByte m) 200 r l′
+
+-- "the block goes into the store's bytes from a on", where they have room for it
+abbrev pub Loaded : ℕ → List ℕ → List ℕ → Reply → List ℕ → Type 0
+Loaded at l b r b′ = Given (room (length l) 0 (length l) && room (length b) at (length l)) 0 b at (bytesOf l 0) (length l) r b′
+
+pub data Shows (h : Header) (s : Store) (l : List ℕ) (r : Reply) (s′ : Store) (l′ : List ℕ) : Type 0 where
+  none : r ≡ noReply → s′ ≡ s → l′ ≡ l → Shows h s l r s′ l′
+  view : h .kind ≡ 20 → s′ ≡ s → ViewGiven (viewOf s (zerosOf (h .first .base) (h .first .value)) (h .a)) (h .b) (h .c) l r l′ → Shows h s l r s′ l′
+  load : (b : List ℕ) → h .kind ≡ 25 → Loaded (h .a) l (s .bytes) r b → s′ ≡ storeOf (s .dir) b (s .used) → l′ ≡ l → Shows h s l r s′ l′
+  directory : h .kind ≡ 27 → s′ ≡ s → WordsGiven (s .dir) l r l′ → Shows h s l r s′ l′
+  bytes : h .kind ≡ 28 → s′ ≡ s → BytesGiven (s .bytes) (h .a) (h .b) l r l′ → Shows h s l r s′ l′

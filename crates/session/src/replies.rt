@@ -1,0 +1,81 @@
+// What an answer says, in numbers (docs/FORMAT.md, "An answer").
+use machine_state::Answer;
+use records::Reply;
+ghost use mathlib.Core.Path.{_≡_};
+ghost use Rattle.utils.specs.Outcome.{gives, refuses};
+ghost use mathlib.Core.List.{[], _∷_};
+ghost use Rattle.machine_state.specs.Answers.{outcomeOf, word, truth as truthful};
+ghost use Rattle.session.specs.Replies.{replyOf, noReply};
+
+// The answer to what is no record.
+pub(crate) fn none() -> Reply
+    ensures { λ r. ⌜ r ≡ noReply ⌝ }
+{
+    Reply {
+        formed: false,
+        refusal: 0,
+        shape: 0,
+        value: 0,
+        given: 0,
+    }
+}
+
+// No value, with so many of the lent bytes.
+pub(crate) fn gave(given: usize) -> Reply
+    ensures { λ r. ⌜ r ≡ replyOf (gives []) given ⌝ }
+{
+    Reply {
+        formed: true,
+        refusal: 0,
+        shape: 0,
+        value: 0,
+        given,
+    }
+}
+
+pub(crate) fn value(value: u64, given: usize) -> Reply
+    ensures { λ r. ⌜ r ≡ replyOf (gives (word value ∷ [])) given ⌝ }
+{
+    Reply {
+        formed: true,
+        refusal: 0,
+        shape: 1,
+        value,
+        given,
+    }
+}
+
+pub(crate) fn refused(refusal: u64, given: usize) -> Reply
+    ensures { λ r. ⌜ r ≡ replyOf (refuses refusal) given ⌝ }
+{
+    Reply {
+        formed: true,
+        refusal,
+        shape: 0,
+        value: 0,
+        given,
+    }
+}
+
+fn truth(truth: bool, given: usize) -> Reply
+    ensures { λ r. ⌜ r ≡ replyOf (gives (truthful truth ∷ [])) given ⌝ }
+{
+    Reply {
+        formed: true,
+        refusal: 0,
+        shape: 2,
+        value: truth as u64,
+        given,
+    }
+}
+
+pub(crate) fn reply_of(answer: Answer, given: usize) -> Reply
+    ensures { λ r. ⌜ r ≡ replyOf (outcomeOf answer) given ⌝ }
+{
+    match answer {
+        Answer::Done => gave(given),
+        Answer::Value(v) => value(v, given),
+        Answer::Truth(b) => truth(b, given),
+        Answer::Refused(why) => refused(records::refusal(why), given),
+    }
+}

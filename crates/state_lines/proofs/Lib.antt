@@ -1,0 +1,3 @@
+pub mod StateLines
+pub mod Longest
+pub mod StateExamples

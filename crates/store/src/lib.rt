@@ -1,0 +1,168 @@
+// The store of pages: what it is, the search of its directory, the absent pages that an access touches, the view of one page, and its laws. A store is
+// lent slices and a count, so these are functions on slices. Below are utils and runs, which know words and runs of bytes; above are mmu, whose reads,
+// writes and walk go through what the search finds, and session, which shows a page. It carries document 01, "Addresses, pages, walk", from "The store
+// is a lent directory" to "without wrap" and its last sentence, the page view, and the tests of refusal 4. specs/Store.antt has the store as a value:
+// its bytes by physical address, and what writing bytes makes of it; proofs/ has the laws, which name no function of mmu.
+ghost use mathlib.Core.Path.{_≡_};
+ghost use Prim.Native.Nat.{_≤_};
+ghost use lib.ListN.{length, take};
+ghost use Rattle.store.specs.Store.{storeOf, sound, seek, foundIn, slotOf, lack, touched, absentOf};
+ghost use Rattle.store.specs.View.{zeroPage, viewOf};
+
+// The slot of a page.
+pub enum Found {
+    At(usize),
+    Nothing,
+}
+
+// Whether the lent slices make a store: refusal 4 if not. The slots are bounded first, so that the product fits.
+pub fn is_store(dir: &[u64], bytes: &[u8], used: usize) -> bool
+    ensures { λ r. ⌜ r ≡ sound (storeOf (now (dir .entry)) (now (bytes .entry)) used) ⌝ }
+{
+    if 65536 < dir.len() {
+        return false;
+    }
+    if dir.len() < used {
+        return false;
+    }
+    bytes.len() == 4096 * dir.len()
+}
+
+fn least(a: usize, b: usize) -> usize
+    ensures { λ r. ⌜ (r ≤ a) × (r ≤ b) ⌝ }
+{
+    if a < b {
+        return a;
+    }
+    b
+}
+
+// A slot that is not past the first one that holds the number: four at a time are passed over.
+fn passed_over(dir: &[u64], used: usize, page: u64) -> usize
+    ensures { λ r. ⌜ (r ≤ used) × (r ≤ length (now (dir .entry))) × (r ≤ seek (take used (now (dir .entry))) page) ⌝ }
+{
+    let mut i: usize = 0;
+    let mut left = least(used, dir.len());
+    while 4 <= left {
+        if dir[i] == page {
+            return i;
+        }
+        if dir[i + 1] == page {
+            return i;
+        }
+        if dir[i + 2] == page {
+            return i;
+        }
+        if dir[i + 3] == page {
+            return i;
+        }
+        i += 4;
+        left -= 4;
+    }
+    i
+}
+
+// The first slot in use that holds the number (01: "a loop over slots yields the slot number or none by break").
+pub fn find_page(dir: &[u64], used: usize, page: u64) -> Found
+    ensures { λ r. ⌜ r ≡ foundIn (take used (now (dir .entry))) page ⌝ }
+{
+    let mut i = passed_over(dir, used, page);
+    let found = loop {
+        if used <= i {
+            break Found::Nothing;
+        }
+        if dir.len() <= i {
+            break Found::Nothing;
+        }
+        if dir[i] == page {
+            break Found::At(i);
+        }
+        i += 1;
+    };
+    found
+}
+
+// The slot in which n bytes from physical p on lie: none if they go on into a second page, or if theirs is absent.
+pub fn slot_of(p: u64, n: usize, dir: &[u64], used: usize) -> Found
+    ensures { λ r. ⌜ r ≡ slotOf (take used (now (dir .entry))) p n ⌝ }
+{
+    let off = (p % 4096) as usize;
+    if 4096 - off < n {
+        return Found::Nothing;
+    }
+    find_page(dir, used, p / 4096)
+}
+
+// How many slots a page still wants: 1 if it is absent.
+fn lacking(dir: &[u64], used: usize, page: u64) -> usize
+    ensures { λ r. ⌜ (r ≡ lack (foundIn (take used (now (dir .entry))) page)) × (r ≤ 1) ⌝ }
+{
+    let found = find_page(dir, used, page);
+    match found {
+        Found::At(_) => 0,
+        Found::Nothing => 1,
+    }
+}
+
+// How many of the pages that n bytes from physical p on touch are absent, for any n: no sum here passes the largest number.
+pub fn count_absent(p: u64, n: usize, dir: &[u64], used: usize) -> usize
+    ensures { λ r. ⌜ r ≡ absentOf (take used (now (dir .entry))) (touched p n) ⌝ }
+{
+    if n == 0 {
+        return 0;
+    }
+    let off = (p % 4096) as usize;
+    let mut page = p / 4096;
+    let mut left = (n - 1) / 4096 + ((n - 1) % 4096 + off) / 4096 + 1;
+    let mut absent: usize = 0;
+    while 0 < left {
+        absent += lacking(dir, used, page);
+        page += 1;
+        left -= 1;
+    }
+    absent
+}
+
+// Whether z is 4,096 zeros.
+fn is_zero_page(z: &[u8]) -> bool
+    ensures { λ r. ⌜ r ≡ zeroPage (now (z .entry)) ⌝ }
+{
+    if z.len() != 4096 {
+        return false;
+    }
+    let mut k: usize = 0;
+    while k < z.len() {
+        if z[k] != 0 {
+            return false;
+        }
+        k += 1;
+    }
+    true
+}
+
+// One page: a part of the store's bytes, or the lent page of zeros if it is absent; an empty part is refusal 4.
+pub fn page_view<'a>(
+    page: u64,
+    dir: &[u64],
+    bytes: &'a [u8],
+    used: usize,
+    zeros: &'a [u8],
+) -> &'a [u8]
+    ensures { λ r. ⌜ now r ≡ viewOf (storeOf (now (dir .entry)) (now (bytes .entry)) used) (now (zeros .entry)) page ⌝ }
+{
+    if !is_store(dir, bytes, used) {
+        return &zeros[0..0];
+    }
+    if !is_zero_page(zeros) {
+        return &zeros[0..0];
+    }
+    let found = find_page(dir, used, page);
+    match found {
+        Found::At(i) => {
+            let from = 4096 * i;
+            let to = from + 4096;
+            &bytes[from..to]
+        }
+        Found::Nothing => zeros,
+    }
+}
