@@ -2,7 +2,7 @@
 -- is, for all that is said here, any other record: the program then stops and gives no answer.
 use mathlib.Core.Bool.{Bool, true, false}
 use mathlib.Core.Path.{_≡_}
-use Prim.Native.Nat.{ℕ, _+_, _*_}
+use Prim.Native.Nat.{ℕ, _+_}
 use mir.Syntax.{w32, w64}
 use mir.Val.{ofZ, SFits}
 use Rattle.instruction_set.specs.declared.InstructionArgument.{InstructionArgument}
@@ -105,7 +105,24 @@ eventMeans w event.Quiet = w .kind ≡ 0
 eventMeans w (event.Control r v) = (w .kind ≡ 1) × (w .base ≡ numberOf r + 1) × (w .value ≡ v)
 eventMeans w (event.Video b) = (w .kind ≡ 2) × (w .value ≡ b)
 
--- ---- what only private functions' contracts cite: what was found means the word, or nothing was
+-- ---- what the decoders answer: a value that the words mean, or malformed, which says nothing of the words
+abbrev pub decodedMeans : Header → SomeCall → Type 0
+decodedMeans h decoded.Malformed = Unit
+decodedMeans h (decoded.Is c) = callMeans h c
+
+abbrev pub builtMeans : Header → ℕ → ℕ → SomeArguments → Type 0
+builtMeans h e n built.Malformed = Unit
+builtMeans h e n (built.Is a) = ArgumentsMean h e n a
+
+abbrev pub presentMeans : OperandWords → SomeArgument → Type 0
+presentMeans w argument.Absent = Unit
+presentMeans w (argument.Present a) = operandMeans w a
+
+abbrev pub occurredMeans : OperandWords → SomeEvent → Type 0
+occurredMeans w occurred.Malformed = Unit
+occurredMeans w (occurred.Is e) = eventMeans w e
+
+-- ---- what only private functions' contracts cite: likewise of one part
 abbrev pub partMeans : ℕ → Part → Type 0
 partMeans n part.Malformed = Unit
 partMeans n (part.Is r) = registerMeans n r
@@ -126,22 +143,6 @@ abbrev pub codeMeans : ℕ → Opcode → Type 0
 codeMeans n code.Malformed = Unit
 codeMeans n (code.Is o) = opcodeMeans n o
 
-abbrev pub presentMeans : OperandWords → SomeArgument → Type 0
-presentMeans w argument.Absent = Unit
-presentMeans w (argument.Present a) = operandMeans w a
-
 abbrev pub givenMeans : OperandWords → Operand → Type 0
 givenMeans w operand.Malformed = Unit
 givenMeans w (operand.Is a) = someOperandMeans w a
-
-abbrev pub decodedMeans : Header → SomeCall → Type 0
-decodedMeans h decoded.Malformed = Unit
-decodedMeans h (decoded.Is c) = callMeans h c
-
-abbrev pub builtMeans : Header → ℕ → ℕ → SomeArguments → Type 0
-builtMeans h e n built.Malformed = Unit
-builtMeans h e n (built.Is a) = ArgumentsMean h e n a
-
-abbrev pub occurredMeans : OperandWords → SomeEvent → Type 0
-occurredMeans w occurred.Malformed = Unit
-occurredMeans w (occurred.Is e) = eventMeans w e

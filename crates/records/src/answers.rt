@@ -11,8 +11,7 @@ use machine_state::Event;
 use numbers::register_number;
 use runs::put_words;
 ghost use mathlib.Core.Path.{_≡_};
-ghost use Prim.Native.Nat.{_+_, _<_};
-ghost use Rattle.numbers.specs.Numbers.{numberOf};
+ghost use Prim.Native.Nat.{_+_};
 ghost use Rattle.records.specs.Answers.{encoded, partNumber, scaleNumber, operandWords};
 
 // The number plus 1, or 0 for absent.

@@ -16,7 +16,6 @@ use numbers::flag_at;
 use numbers::register_at;
 use numbers::size_at;
 ghost use mathlib.Core.Path.{_≡_};
-ghost use Prim.Native.Nat.{_≤_};
 ghost use Rattle.records.specs.Built.{argumentsOf, firstGiven, secondGiven, opcodeGiven, sizeGiven};
 ghost use Rattle.records.specs.Means.{partMeans, factorMeans, farMeans, explicitMeans, codeMeans, givenMeans, presentMeans, decodedMeans, builtMeans, occurredMeans};
 

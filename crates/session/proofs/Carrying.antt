@@ -2,7 +2,7 @@
 use mathlib.Core.List.{List, []}
 use mathlib.Core.Path.{_≡_, refl, sym, ap, subst, _∙_}
 use Prim.Native.Nat.{ℕ}
-use Rattle.store.specs.Store.{Store, storeOf}
+use Rattle.store.specs.Store.{storeOf}
 use Rattle.machine_state.specs.Answers.{After, left}
 use Rattle.machine_state.specs.declared.Answered.{Answered}
 use Rattle.machine_state.specs.declared.MachineState.{MachineState}

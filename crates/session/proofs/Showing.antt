@@ -1,7 +1,7 @@
 -- The shows: the machine's words, a part of a view, and the lent page of zeros. By the laws of `filled`. Assumes nothing.
-use mathlib.Core.Bool.{Bool, true, false, cond}
+use mathlib.Core.Bool.{Bool, true}
 use mathlib.Core.List.{List, [], _∷_}
-use mathlib.Core.Path.{_≡_, refl, sym, ap, subst, _∙_}
+use mathlib.Core.Path.{_≡_, refl, ap, _∙_}
 use Prim.Native.Nat.{ℕ, zero, suc, _+_, _*_, _-_, _≤_, _<_}
 use native.Mathlib.Nat.{not-suc-le-zero, le-of-suc-le-suc}
 use native.Mathlib.Omega.{arith}
@@ -15,7 +15,7 @@ use Rattle.machine_state.specs.declared.MachineState.{MachineState}
 use Rattle.runs.specs.Runs.{room, laneIn, Put}
 use Rattle.runs.proofs.Puts.{room-yes, room-no, put-was}
 use Rattle.records.specs.declared.Reply.{Reply}
-use Rattle.session.specs.Replies.{replyOf, noReply, Given}
+use Rattle.session.specs.Replies.{replyOf, noReply}
 use Rattle.session.specs.Shows.{machineByte, MachineGiven, BytesGiven, ViewGiven}
 
 pub no-machine : (m : MachineState) {l l′ : List ℕ} {r : Reply} → length l < 200 → r ≡ noReply → l′ ≡ l → MachineGiven m l r l′

@@ -1,7 +1,7 @@
 -- A reset: where there is room it gives the machine of the block, and where there is none it changes nothing. Assumes nothing.
-use mathlib.Core.Bool.{Bool, true, false, not, cond, _&&_}
+use mathlib.Core.Bool.{Bool, true, false, not, _&&_}
 use mathlib.Core.List.{List}
-use mathlib.Core.Path.{_≡_, refl, sym, ap, _∙_}
+use mathlib.Core.Path.{_≡_, sym, ap, _∙_}
 use Prim.Native.Nat.{ℕ, _+_, _*_, _%_, _≤_, _<_}
 use native.Mathlib.Nat.{zero-add}
 use native.Mathlib.Omega.{arith}
@@ -13,7 +13,7 @@ use Rattle.runs.proofs.Filled.{filled-ext}
 use Rattle.runs.specs.Runs.{room, over, wordIn, Put}
 use Rattle.runs.proofs.Puts.{room-yes, room-no, room-le, put-was}
 use Rattle.records.specs.declared.Header.{Header}
-use Rattle.session.specs.Starts.{Starts, machineIn, startIn, noStart, fitting}
+use Rattle.session.specs.Starts.{Starts, noStart, fitting}
 use Rattle.session.specs.declared.Start.{Start}
 
 no-start : {h : Header} {b dir bytes dir′ bytes′ : List ℕ} {r : Start} → fitting h b dir bytes ≡ false → r ≡ noStart → dir′ ≡ dir → bytes′ ≡ bytes → Starts h b dir bytes r dir′ bytes′

@@ -1,5 +1,5 @@
 -- Kind 40 (docs/FORMAT.md, "Texts and the report"): the exposed places of the calls whose headers stand in the lent bytes.
-use mathlib.Core.Bool.{Bool, true, false, cond}
+use mathlib.Core.Bool.{Bool, false, cond}
 use mathlib.Core.List.{List}
 use mathlib.Core.Path.{_≡_}
 use Prim.Native.Nat.{ℕ, _*_, _≤_, _<_}

@@ -5,11 +5,11 @@ use mathlib.Core.Path.{_≡_}
 use Prim.Native.Nat.{ℕ, _-_, _%_}
 use lib.Dec.{ltb}
 use lib.ListN.{length, set, replicate}
-use Rattle.utils.specs.Outcome.{gives, refuses}
+use Rattle.utils.specs.Outcome.{refuses}
 use Rattle.store.specs.View.{viewOf}
 use Rattle.store.specs.Store.{Store, storeOf}
 use Rattle.machine_state.specs.declared.MachineState.{MachineState}
-use Rattle.runs.specs.Runs.{room, over, laneIn, bytesOf}
+use Rattle.runs.specs.Runs.{room, laneIn, bytesOf}
 use Rattle.records.specs.declared.Header.{Header}
 use Rattle.records.specs.declared.Reply.{Reply}
 use Rattle.session.specs.Replies.{replyOf, noReply, Given, WordsGiven}

@@ -5,16 +5,12 @@ use super::replies::refused;
 use machine_state::MachineState;
 use records::Header;
 use records::Reply;
-ghost use mathlib.Core.Bool.{cond};
-ghost use mathlib.Core.List.{[]};
 ghost use mathlib.Core.Path.{_≡_};
 ghost use Prim.Native.Nat.{_-_, _≤_};
 ghost use lib.ListN.{length, set, take};
-ghost use Rattle.utils.specs.Outcome.{gives};
 ghost use Rattle.store.specs.View.{viewOf};
 ghost use Rattle.store.specs.Store.{storeOf};
-ghost use Rattle.runs.specs.Runs.{room, bytesOf, over};
-ghost use Rattle.session.specs.Replies.{replyOf, noReply, WordsGiven};
+ghost use Rattle.session.specs.Replies.{WordsGiven};
 ghost use Rattle.session.specs.Shows.{Shows, BytesGiven, ViewGiven, MachineGiven, Loaded};
 
 // Words, low byte first.

@@ -1,4 +1,5 @@
-// The texts: a text's length, or its refusal; the whole buffer follows.
+// The texts: a text's length, or its refusal; the whole buffer follows. Each takes the machine, since one contract, `Texts`, is that of all; only the
+// state's text shows it.
 use super::replies::none;
 use super::replies::refused;
 use super::replies::value;
