@@ -6,61 +6,87 @@ use borrow.Author.Needs.{needs}
 use Rattle.calls.proofs.perform.Statement.{statement}
 use Rattle.calls.proofs.perform.Tie as tie
 
-enum-told : tie.Need-enum-told
-enum-told c = search needs
+returns : tie.Need-returns
+unfolding step
+returns c =
+    let call = c .before .before .before .before in
+    let start = call .before .before .before .before .before in
+    rw (call .call .given .1) (ap (beside (start .args .lent .now)) (c .get-value .ensures))
+
+returns-2 : tie.Need-returns-2
+unfolding step
+returns-2 c =
+    let set-value = c .before .before .before .before in
+    let call2 = set-value .before .before .before .before in
+    let start = call2 .before .before .before .before .before in
+    rw (call2 .call2 .given .1) (ap (beside (start .args .lent .now)) (set-value .set-value .ensures))
+
+returns-3 : tie.Need-returns-3
+unfolding step
+returns-3 c =
+    let calculate-effective-address = c .before .before in
+    let call3 = calculate-effective-address .before .before in
+    rw (call3 .call3 .given .1, c .keep .ensures, c .before .address-answer .ensures)
+    (rw (
+      address-outcome (calculate-effective-address .calculate-effective-address .result),
+      calculate-effective-address .calculate-effective-address .ensures,
+    ))
+
+returns-4 : tie.Need-returns-4
+unfolding step
+returns-4 c =
+    let stack-push = c .before .before .before .before in
+    let enum-told = stack-push .before .before .before .before in
+    rw (enum-told .enum-told .given .1) (stack-push .stack-push .ensures)
+
+returns-5 : tie.Need-returns-5
+unfolding step
+returns-5 c =
+    let enum-told2 = c .before .before .before in
+    let start = enum-told2 .before .before .before .before .before in
+    rw (enum-told2 .enum-told2 .given .1) (ap (beside (start .args .lent .now)) (c .stack-pop .ensures))
+
+returns-6 : tie.Need-returns-6
+unfolding step
+returns-6 c =
+    let mem-read = c .before .before in
+    let call4 = mem-read .before .before .before .before .before in
+    rw (call4 .call4 .given .1) (mem-read .mem-read .ensures)
+
+returns-7 : tie.Need-returns-7
+unfolding step
+returns-7 c =
+    let mem-write = c .before .before .before .before in
+    let call5 = mem-write .before .before .before .before .before in
+    rw (call5 .call5 .given .1) (mem-write .mem-write .ensures)
+
+returns-8 : tie.Need-returns-8
+unfolding step
+returns-8 c =
+    let call6 = c .before .before .before in
+    rw (call6 .call6 .given .1, c .keep2 .ensures, c .before .get-flag .ensures)
+
+returns-9 : tie.Need-returns-9
+unfolding step
+returns-9 c =
+    let call7 = c .before .before .before in
+    rw (call7 .call7 .given .1, c .keep3 .ensures, c .before .set-flag .ensures)
+
+returns-10 : tie.Need-returns-10
+unfolding step
+returns-10 c =
+    let call8 = c .before .before .before in
+    rw (call8 .call8 .given .1, c .keep4 .ensures, c .before .compute-flags .ensures)
 
 pub perform-spec : {M : Type 1} → statement M
-unfolding step
 perform-spec =
     tie.close
-    (tie.spec
-    (λ c. search needs)
-    (λ c κs. search needs)
-    (λ c. search needs)
-    (λ c κs. search needs)
-    (λ c. search needs)
-    (λ c κs. search needs)
-    (λ c κs. search needs)
-    (λ c κs. search needs)
-    enum-told
-    (λ c κs. search needs)
-    (λ c. search needs)
-    (λ c κs. search needs)
-    (λ c. search needs)
-    (λ c κs. search needs)
-    (λ c. search needs)
-    (λ c κs. search needs)
-    (λ c. search needs)
-    (λ c κs. search needs)
-    (λ c κs. search needs)
-    (λ c. search needs)
-    (λ c κs. search needs)
-    (λ c κs. search needs)
-    (λ c. search needs)
-    (λ c κs. search needs)
-    (λ c κs. search needs)
-    (λ c. search needs)
-    (λ c. search needs)
-    (λ c. rw (c .before .before .before .before .call .given .1) (ap (beside (c .before .before .before .before .before .before .before .before .before .args .lent .now)) (c .get-value .ensures)))
-    (λ c. search needs)
-    (λ c. search needs)
-    (λ c. rw (c .before .before .before .before .before .before .before .before .call2 .given .1) (ap (beside (c .before .before .before .before .before .before .before .before .before .before .before .before .before .args .lent .now)) (c .before .before .before .before .set-value .ensures)))
-    (λ c. rw (c .before .before .before .before .call3 .given .1, c .keep .ensures, c .before .address-answer .ensures) (rw (address-outcome (c .before .before .calculate-effective-address .result), c .before .before .calculate-effective-address .ensures)))
-    (λ c. search needs)
-    (λ c. search needs)
-    (λ c. search needs)
-    (λ c. rw (c .before .before .before .before .before .before .before .before .enum-told .given .1) (c .before .before .before .before .stack-push .ensures))
-    (λ c. search needs)
-    (λ c. search needs)
-    (λ c. rw (c .before .before .before .enum-told2 .given .1) (ap (beside (c .before .before .before .before .before .before .before .before .args .lent .now)) (c .stack-pop .ensures)))
-    (λ c. search needs)
-    (λ c. search needs)
-    (λ c. search needs)
-    (λ c. rw (c .before .before .before .before .before .before .before .call4 .given .1) (c .before .before .mem-read .ensures))
-    (λ c. search needs)
-    (λ c. search needs)
-    (λ c. search needs)
-    (λ c. rw (c .before .before .before .before .before .before .before .before .before .call5 .given .1) (c .before .before .before .before .mem-write .ensures))
-    (λ c. rw (c .before .before .before .call6 .given .1, c .keep2 .ensures, c .before .get-flag .ensures))
-    (λ c. rw (c .before .before .before .call7 .given .1, c .keep3 .ensures, c .before .set-flag .ensures))
-    (λ c. rw (c .before .before .before .call8 .given .1, c .keep4 .ensures, c .before .compute-flags .ensures)))
+    (tie.spec (λ c. search needs) (λ c κs. search needs) (λ c. search needs) (λ c κs. search needs) (λ c. search needs)
+    (λ c κs. search needs) (λ c κs. search needs) (λ c κs. search needs) (λ c. search needs) (λ c κs. search needs)
+    (λ c. search needs) (λ c κs. search needs) (λ c. search needs) (λ c κs. search needs) (λ c. search needs)
+    (λ c κs. search needs) (λ c. search needs) (λ c κs. search needs) (λ c κs. search needs) (λ c. search needs)
+    (λ c κs. search needs) (λ c κs. search needs) (λ c. search needs) (λ c κs. search needs) (λ c κs. search needs)
+    (λ c. search needs) (λ c. search needs) returns (λ c. search needs) (λ c. search needs) returns-2 returns-3
+    (λ c. search needs) (λ c. search needs) (λ c. search needs) returns-4 (λ c. search needs) (λ c. search needs)
+    returns-5 (λ c. search needs) (λ c. search needs) (λ c. search needs) returns-6 (λ c. search needs)
+    (λ c. search needs) (λ c. search needs) returns-7 returns-8 returns-9 returns-10)

@@ -6,24 +6,25 @@ use borrow.Author.Needs.{needs}
 use Rattle.drive.proofs.carried.Statement.{statement}
 use Rattle.drive.proofs.carried.Tie as tie
 
+slice-aggregate-carry-out : tie.Need-slice-aggregate-carry-out
+slice-aggregate-carry-out c =
+    let start = c .before .before .before .before .before .before .before .before in
+    sym (length-take-le (start .args .n) (start .args .block .now) (omega arith))
+
+slice-aggregate-carry-out-2 : tie.Need-slice-aggregate-carry-out-2
+slice-aggregate-carry-out-2 c =
+    let start = c .before .before .before .before .before .before .before .before .before in
+    sym (length-take-le (start .args .run .slots) (start .args .dir .now) (omega arith))
+
+slice-aggregate-carry-out-3 : tie.Need-slice-aggregate-carry-out-3
+slice-aggregate-carry-out-3 c =
+    let start = c .before .before .before .before .before .before .before .before .before .before in
+    sym (length-take-le (start .args .run .length) (start .args .bytes .now) (omega arith))
+
 pub carried-spec : {M : Type 1} → statement M
 carried-spec =
     tie.close
-    (tie.spec
-    (λ c κs. search needs)
-    (λ c. search needs)
-    (λ c κs. search needs)
-    (λ c. search needs)
-    (λ c κs. search needs)
-    (λ c. search needs)
-    (λ c. search needs)
-    (λ c. sym (length-take-le (c .before .before .before .before .before .before .before .before .args .n) (c .before .before .before .before .before .before .before .before .args .block .now) (omega arith)))
-    (λ c. search needs)
-    (λ c. sym (length-take-le (c .before .before .before .before .before .before .before .before .before .args .run .slots) (c .before .before .before .before .before .before .before .before .before .args .dir .now) (omega arith)))
-    (λ c. search needs)
-    (λ c. sym (length-take-le (c .before .before .before .before .before .before .before .before .before .before .args .run .length) (c .before .before .before .before .before .before .before .before .before .before .args .bytes .now) (omega arith)))
-    (λ c κs. search needs)
-    (λ c. search needs)
-    (λ c. search needs)
-    (λ c. search needs)
-    (λ c. search needs))
+    (tie.spec (λ c κs. search needs) (λ c. search needs) (λ c κs. search needs) (λ c. search needs)
+    (λ c κs. search needs) (λ c. search needs) (λ c. search needs) slice-aggregate-carry-out (λ c. search needs)
+    slice-aggregate-carry-out-2 (λ c. search needs) slice-aggregate-carry-out-3 (λ c κs. search needs)
+    (λ c. search needs) (λ c. search needs) (λ c. search needs) (λ c. search needs))

@@ -6,15 +6,13 @@ use borrow.Author.Needs.{needs}
 use Rattle.drive.proofs.write_answer.Statement.{statement}
 use Rattle.drive.proofs.write_answer.Tie as tie
 
+slice-aggregate-write-all-2 : tie.Need-slice-aggregate-write-all-2
+slice-aggregate-write-all-2 c =
+    let start = c .before .before .before .before .before .before .before .before in
+    sym (length-take-le (start .args .carried .reply .given) (start .args .block .now) (omega arith))
+
 pub write-answer-spec : {M : Type 1} → statement M
 write-answer-spec =
     tie.close
-    (tie.spec
-    (λ c κs. search needs)
-    (λ c. search needs)
-    (λ c κs. search needs)
-    (λ c. search needs)
-    (λ c. search needs)
-    (λ c. sym (length-take-le (c .before .before .before .before .before .before .before .before .args .carried .reply .given) (c .before .before .before .before .before .before .before .before .args .block .now) (omega arith)))
-    (λ c κs. search needs)
-    (λ c. search needs))
+    (tie.spec (λ c κs. search needs) (λ c. search needs) (λ c κs. search needs) (λ c. search needs) (λ c. search needs)
+    slice-aggregate-write-all-2 (λ c κs. search needs) (λ c. search needs))

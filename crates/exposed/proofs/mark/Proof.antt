@@ -15,17 +15,37 @@ Inv-loop on₀ value end p₀ on p = (p₀ ≤ p) × (p ≤ end) × (end ≤ 182
 abbrev μ-loop : tie.MeasureT-loop
 μ-loop on₀ value end p₀ on p = end - p
 
+loop-holds : tie.Need-loop-holds Inv-loop μ-loop
+loop-holds c =
+    let start = c .before in (
+      omega arith,
+      omega arith,
+      start .pre .1,
+      mark-none (start .args .on .now) (start .args .span .start) (start .args .value),
+    )
+
+loop-again : tie.Need-loop-again Inv-loop μ-loop
+loop-again c =
+    let loop = c .before in
+    let start = loop .before .before in (
+      omega arith,
+      omega arith,
+      loop .loop .inv .2,
+      mark-more (start .args .on .now) (loop .loop .on) (start .args .span .start) (loop .loop .p) (start .args .value)
+          (loop .loop .inv .0) (omega (arith, start .pre .0)) (loop .loop .inv .3),
+    )
+
+returns : tie.Need-returns Inv-loop μ-loop
+returns c =
+    let loop = c .before in
+    let start = loop .before .before in
+    let e : loop .loop .p - start .args .span .start ≡ start .args .span .count = omega arith in
+    subst (λ (n : ℕ). Marked (start .args .on .now) (loop .loop .on) (inSpan (span (start .args .span .start) n))
+    (start .args .value))
+    e (loop .loop .inv .3)
+
 pub mark-spec : {M : Type 1} → statement M
 mark-spec =
     tie.close
-    (tie.spec
-    Inv-loop
-    μ-loop
-    (λ c. search needs)
-    (λ c. (omega arith, omega arith, c .before .pre .1, mark-none (c .before .args .on .now) (c .before .args .span .start) (c .before .args .value)))
-    (λ c. search needs)
-    (λ c. search needs)
-    (λ c. omega arith)
-    (λ c. (omega arith, omega arith, c .before .loop .inv .2, mark-more (c .before .before .before .args .on .now) (c .before .loop .on) (c .before .before .before .args .span .start) (c .before .loop .p) (c .before .before .before .args .value) (c .before .loop .inv .0) (omega (arith, c .before .before .before .pre .0)) (c .before .loop .inv .3)))
-    (λ c. let e : c .before .loop .p - c .before .before .before .args .span .start ≡ c .before .before .before .args .span .count = omega arith in
-    subst (λ (n : ℕ). Marked (c .before .before .before .args .on .now) (c .before .loop .on) (inSpan (span (c .before .before .before .args .span .start) n)) (c .before .before .before .args .value)) e (c .before .loop .inv .3)))
+    (tie.spec Inv-loop μ-loop (λ c. search needs) loop-holds (λ c. search needs) (λ c. search needs) (λ c. omega arith)
+    loop-again returns)

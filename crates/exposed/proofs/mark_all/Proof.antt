@@ -4,12 +4,39 @@ use mathlib.Core.Path.{_∙_}
 use Rattle.exposed.proofs.mark_all.Statement.{statement}
 use Rattle.exposed.proofs.mark_all.Tie as tie
 
+mark-requires : tie.Need-mark-requires
+mark-requires c κs =
+    let start = c .before .before .before .before .before in
+    (start .pre .0, start .pre .1 .one)
+
+mark-requires-2 : tie.Need-mark-requires-2
+mark-requires-2 c κs =
+    let start = c .before .before .before .before .before .before .before in
+    (c .before .mark .ensures .long ∙ start .pre .0, start .pre .1 .two)
+
+mark-requires-3 : tie.Need-mark-requires-3
+mark-requires-3 c κs =
+    let mark = c .before .before .before in
+    let start = mark .before .before .before .before .before .before in
+    (c .before .mark2 .ensures .long ∙ mark .mark .ensures .long ∙ start .pre .0, start .pre .1 .three)
+
+mark-requires-4 : tie.Need-mark-requires-4
+mark-requires-4 c κs =
+    let mark2 = c .before .before .before in
+    let mark = mark2 .before .before in
+    let start = mark .before .before .before .before .before .before in (
+      c .before .mark3 .ensures .long ∙ mark2 .mark2 .ensures .long ∙ mark .mark .ensures .long ∙ start .pre .0,
+      start .pre .1 .four,
+    )
+
+returns : tie.Need-returns
+returns c =
+    let mark3 = c .before .before in
+    let mark2 = mark3 .before .before in
+    let mark = mark2 .before .before in
+    let start = mark .before .before .before .before .before .before in
+    mark-four (start .args .spans) _ _ _ _ _ (start .args .value) (mark .mark .ensures) (mark2 .mark2 .ensures)
+    (mark3 .mark3 .ensures) (c .mark4 .ensures)
+
 pub mark-all-spec : {M : Type 1} → statement M
-mark-all-spec =
-    tie.close
-    (tie.spec
-    (λ c κs. (c .before .before .before .before .before .pre .0, c .before .before .before .before .before .pre .1 .one))
-    (λ c κs. (c .before .mark .ensures .long ∙ c .before .before .before .before .before .before .before .pre .0, c .before .before .before .before .before .before .before .pre .1 .two))
-    (λ c κs. (c .before .mark2 .ensures .long ∙ c .before .before .before .mark .ensures .long ∙ c .before .before .before .before .before .before .before .before .before .pre .0, c .before .before .before .before .before .before .before .before .before .pre .1 .three))
-    (λ c κs. (c .before .mark3 .ensures .long ∙ c .before .before .before .mark2 .ensures .long ∙ c .before .before .before .before .before .mark .ensures .long ∙ c .before .before .before .before .before .before .before .before .before .before .before .pre .0, c .before .before .before .before .before .before .before .before .before .before .before .pre .1 .four))
-    (λ c. mark-four (c .before .before .before .before .before .before .before .before .before .before .before .before .args .spans) _ _ _ _ _ (c .before .before .before .before .before .before .before .before .before .before .before .before .args .value) (c .before .before .before .before .before .before .mark .ensures) (c .before .before .before .before .mark2 .ensures) (c .before .before .mark3 .ensures) (c .mark4 .ensures)))
+mark-all-spec = tie.close (tie.spec mark-requires mark-requires-2 mark-requires-3 mark-requires-4 returns)

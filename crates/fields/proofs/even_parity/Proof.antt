@@ -17,25 +17,36 @@ Inv-loop result parity₀ rest₀ i₀ parity rest i =
 abbrev μ-loop : tie.MeasureT-loop
 μ-loop result parity₀ rest₀ i₀ parity rest i = 8 - i
 
-pub even-parity-spec : {M : Type 1} → statement M
-unfolding evenOnes
-even-parity-spec =
-    tie.close
-    (tie.spec
-    Inv-loop
-    μ-loop
-    (λ c. (omega arith, (omega arith, omega arith)))
-    (λ c. omega arith)
-    (λ c. omega arith)
-    (λ c. let p = c .before .loop .parity in
-    let r = c .before .loop .rest in
-    let i = c .before .loop .i in (
+loop-holds : tie.Need-loop-holds Inv-loop μ-loop
+loop-holds c = (omega arith, (omega arith, omega arith))
+
+loop-again : tie.Need-loop-again Inv-loop μ-loop
+loop-again c =
+    let loop = c .before in
+    let p = loop .loop .parity in
+    let r = loop .loop .rest in
+    let i = loop .loop .i in (
       omega arith,
       (
-        still-bit p r (c .before .loop .inv .1 .0),
-        turn (8 - (i + 1)) p r ∙ ap (λ d. (p + onesIn d r) % 2) (omega arith) ∙ c .before .loop .inv .1 .1,
+        still-bit p r (loop .loop .inv .1 .0),
+        turn (8 - (i + 1)) p r ∙ ap (λ d. (p + onesIn d r) % 2) (omega arith) ∙ loop .loop .inv .1 .1,
       ),
-    ))
-    (λ c. let p = c .before .loop .parity in
-    let r = c .before .loop .rest in
-    not-one p (c .before .loop .inv .1 .0) ∙ ap (λ z. eqb z 0) (sym (ended p r (c .loop-test .left) (c .before .loop .inv .1 .0)) ∙ c .before .loop .inv .1 .1 ∙ ap (λ n. n % 2) (ones-low 8 (c .before .before .args .result)))))
+    )
+
+returns : tie.Need-returns Inv-loop μ-loop
+unfolding evenOnes
+returns c =
+    let loop = c .before in
+    let start = loop .before in
+    let p = loop .loop .parity in
+    let r = loop .loop .rest in
+    not-one p (loop .loop .inv .1 .0)
+    ∙ ap (λ z. eqb z 0)
+    (sym (ended p r (c .loop-test .left) (loop .loop .inv .1 .0))
+    ∙ loop .loop .inv .1 .1
+    ∙ ap (λ n. n % 2) (ones-low 8 (start .args .result)))
+
+pub even-parity-spec : {M : Type 1} → statement M
+even-parity-spec =
+    tie.close
+    (tie.spec Inv-loop μ-loop loop-holds (λ c. omega arith) (λ c. omega arith) loop-again returns)

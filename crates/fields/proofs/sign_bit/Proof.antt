@@ -7,13 +7,15 @@ use borrow.Author.Needs.{needs}
 use Rattle.fields.proofs.sign_bit.Statement.{statement}
 use Rattle.fields.proofs.sign_bit.Tie as tie
 
-pub sign-bit-spec : {M : Type 1} → statement M
+sub-top : tie.Need-sub-top
+sub-top c = omega (arith, bytes-some (c .before .args .size), c .size-bits .ensures)
+
+shr-result : tie.Need-shr-result
+shr-result c = omega (arith, bytes-within (c .before .args .size), c .size-bits .ensures)
+
+returns : tie.Need-returns
 unfolding bitSet cut
-sign-bit-spec =
-    tie.close
-    (tie.spec
-    (λ c κs. search needs)
-    (λ c. omega (arith, bytes-some (c .before .args .size), c .size-bits .ensures))
-    (λ c. search needs)
-    (λ c. omega (arith, bytes-within (c .before .args .size), c .size-bits .ensures))
-    (λ c. rw (c .size-bits .ensures)))
+returns c = rw (c .size-bits .ensures)
+
+pub sign-bit-spec : {M : Type 1} → statement M
+sign-bit-spec = tie.close (tie.spec (λ c κs. search needs) sub-top (λ c. search needs) shr-result returns)

@@ -7,12 +7,12 @@ use borrow.Author.Needs.{needs}
 use Rattle.fields.proofs.test_flag.Statement.{statement}
 use Rattle.fields.proofs.test_flag.Tie as tie
 
-pub test-flag-spec : {M : Type 1} → statement M
+shr-result : tie.Need-shr-result
+shr-result c = omega (arith, bit-below (c .before .args .flag), c .flag-bit .ensures)
+
+returns : tie.Need-returns
 unfolding bitSet cut
-test-flag-spec =
-    tie.close
-    (tie.spec
-    (λ c κs. search needs)
-    (λ c. search needs)
-    (λ c. omega (arith, bit-below (c .before .args .flag), c .flag-bit .ensures))
-    (λ c. rw (c .flag-bit .ensures)))
+returns c = rw (c .flag-bit .ensures)
+
+pub test-flag-spec : {M : Type 1} → statement M
+test-flag-spec = tie.close (tie.spec (λ c κs. search needs) (λ c. search needs) shr-result returns)

@@ -6,31 +6,34 @@ use borrow.Author.Needs.{needs}
 use Rattle.fields.proofs.write_part.Statement.{statement}
 use Rattle.fields.proofs.write_part.Tie as tie
 
-enum-told : tie.Need-enum-told
-enum-told c = search needs
+returns : tie.Need-returns
+unfolding writeOf put
+returns c = rw (c .enum-told .given .1) (omega arith)
+
+returns-2 : tie.Need-returns-2
+unfolding writeOf put
+returns-2 c = rw (c .enum-told2 .given .1) (omega arith)
+
+returns-3 : tie.Need-returns-3
+unfolding writeOf put
+returns-3 c = rw (c .enum-told3 .given .1) (omega arith)
+
+returns-4 : tie.Need-returns-4
+unfolding writeOf put
+returns-4 c = rw (c .enum-told4 .given .1) (omega arith)
+
+returns-5 : tie.Need-returns-5
+unfolding writeOf put
+returns-5 c = rw (c .enum-told5 .given .1) (omega arith)
+
+returns-6 : tie.Need-returns-6
+unfolding writeOf put
+returns-6 c = rw (c .enum-told6 .given .1) (omega arith)
 
 pub write-part-spec : {M : Type 1} → statement M
-unfolding writeOf put
 write-part-spec =
     tie.close
-    (tie.spec
-    enum-told
-    (λ c. search needs)
-    (λ c. search needs)
-    (λ c. search needs)
-    (λ c. search needs)
-    (λ c. search needs)
-    (λ c. search needs)
-    (λ c. search needs)
-    (λ c. search needs)
-    (λ c. search needs)
-    (λ c. search needs)
-    (λ c. search needs)
-    (λ c. search needs)
-    (λ c. search needs)
-    (λ c. rw (c .enum-told .given .1) (omega arith))
-    (λ c. rw (c .enum-told2 .given .1) (omega arith))
-    (λ c. rw (c .enum-told3 .given .1) (omega arith))
-    (λ c. rw (c .enum-told4 .given .1) (omega arith))
-    (λ c. rw (c .enum-told5 .given .1) (omega arith))
-    (λ c. rw (c .enum-told6 .given .1) (omega arith)))
+    (tie.spec (λ c. search needs) (λ c. search needs) (λ c. search needs) (λ c. search needs) (λ c. search needs)
+    (λ c. search needs) (λ c. search needs) (λ c. search needs) (λ c. search needs) (λ c. search needs)
+    (λ c. search needs) (λ c. search needs) (λ c. search needs) (λ c. search needs) returns returns-2 returns-3
+    returns-4 returns-5 returns-6)

@@ -16,8 +16,30 @@ rest (suc (suc (suc (suc zero)))) a b c d e = absurd (e refl)
 rest (suc (suc (suc (suc (suc zero))))) a b c d e = refl
 rest (suc (suc (suc (suc (suc (suc n)))))) a b c d e = refl
 
-pub flag-at-spec : {M : Type 1} → statement M
+returns : tie.Need-returns
 unfolding flagAt
-flag-at-spec =
-    tie.close (tie.spec (λ c. rw (c .match .keys1)) (λ c. rw (c .match .keys2)) (λ c. rw (c .match .keys3)) (λ c. rw (c .match .keys4)) (λ c. rw (c .match .keys5))
-    (λ c. let no = c .match .rest in rest (c .before .args .n) (no .0 .0 .0 .0 .1) (no .0 .0 .0 .1) (no .0 .0 .1) (no .0 .1) (no .1)))
+returns c = rw (c .match .keys1)
+
+returns-2 : tie.Need-returns-2
+unfolding flagAt
+returns-2 c = rw (c .match .keys2)
+
+returns-3 : tie.Need-returns-3
+unfolding flagAt
+returns-3 c = rw (c .match .keys3)
+
+returns-4 : tie.Need-returns-4
+unfolding flagAt
+returns-4 c = rw (c .match .keys4)
+
+returns-5 : tie.Need-returns-5
+unfolding flagAt
+returns-5 c = rw (c .match .keys5)
+
+returns-6 : tie.Need-returns-6
+returns-6 c =
+    let no = c .match .rest in
+    rest (c .before .args .n) (no .0 .0 .0 .0 .1) (no .0 .0 .0 .1) (no .0 .0 .1) (no .0 .1) (no .1)
+
+pub flag-at-spec : {M : Type 1} → statement M
+flag-at-spec = tie.close (tie.spec returns returns-2 returns-3 returns-4 returns-5 returns-6)

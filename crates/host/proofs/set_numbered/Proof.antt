@@ -6,9 +6,16 @@ use Rattle.host.specs.Numbered.{setNumbered}
 use Rattle.host.proofs.set_numbered.Statement.{statement}
 use Rattle.host.proofs.set_numbered.Tie as tie
 
-pub set-numbered-spec : {M : Type 1} → statement M
+returns : tie.Need-returns
 unfolding setNumbered
-set-numbered-spec =
-    tie.close (tie.spec (λ c κs. search needs) (λ c κs. search needs)
-    (λ c. rw (c .before .set-flag .ensures) (rw (c .before .before .flag-at .ensures) (rw (lt-ltb _ _ (c .before .before .before .if1 .taken)) (refl, refl))))
-    (λ c. rw (le-ltb _ _ (c .if1 .left)) (refl, refl)))
+returns c =
+    let flag-at = c .before .before in
+    let if1 = flag-at .before in
+    rw (c .before .set-flag .ensures) (rw (flag-at .flag-at .ensures) (rw (lt-ltb _ _ (if1 .if1 .taken)) (refl, refl)))
+
+returns-2 : tie.Need-returns-2
+unfolding setNumbered
+returns-2 c = rw (le-ltb _ _ (c .if1 .left)) (refl, refl)
+
+pub set-numbered-spec : {M : Type 1} → statement M
+set-numbered-spec = tie.close (tie.spec (λ c κs. search needs) (λ c κs. search needs) returns returns-2)

@@ -9,19 +9,65 @@ use borrow.Author.Needs.{needs}
 use Rattle.mmu.proofs.mem_read.Statement.{statement}
 use Rattle.mmu.proofs.mem_read.Tie as tie
 
+returns : tie.Need-returns
+returns c =
+    let o = read-bad _ _ (sym (c .before .is-store .ensures) ∙ not-true _ (c .if1 .taken)) in
+    (sym o, sym (out-refused _ _ _ _ _ (omega arith) o))
+
+returns-2 : tie.Need-returns-2
+returns-2 c =
+    let is-store = c .before .before in
+    let start = is-store .before .before .before .before in
+    let o =
+    read-long _ (length (start .args .out .now))
+    (sym (is-store .is-store .ensures) ∙ not-false _ (c .before .if1 .left)) (omega (arith, c .if2 .taken)) in
+    (sym o, sym (out-refused _ _ _ _ _ (omega arith) o))
+
+returns-3 : tie.Need-returns-3
+returns-3 c =
+    let if1 = c .before .before in
+    let is-store = if1 .before in
+    let start = is-store .before .before .before .before in
+    let o =
+    read-done _ (length (start .args .out .now)) (sym (is-store .is-store .ensures) ∙ not-false _ (if1 .if1 .left))
+    (omega (arith, c .before .if2 .left)) in (
+      sym o,
+      read-empty _ _ (start .args .out .now) (omega (arith, c .if3 .taken, c .before .if2 .left))
+          ∙ sym (out-done _ _ _ _ o),
+    )
+
+translate-virtual-to-physical-address-requires : tie.Need-translate-virtual-to-physical-address-requires
+translate-virtual-to-physical-address-requires c κs =
+    let if1 = c .before .before in
+    let is-store = if1 .before in
+    sound-facts _ (sym (is-store .is-store .ensures) ∙ not-false _ (if1 .if1 .left))
+
+mem-read-phys-requires : tie.Need-mem-read-phys-requires
+mem-read-phys-requires c κs =
+    let if3 = c .before .before in
+    let if1 = if3 .before .before in
+    let is-store = if1 .before in
+    (sound-facts _ (sym (is-store .is-store .ensures) ∙ not-false _ (if1 .if1 .left)), omega (arith, if3 .if3 .left))
+
+returns-4 : tie.Need-returns-4
+returns-4 c =
+    let mem-read-phys = c .before .before in
+    let translate-virtual-to-physical-address = mem-read-phys .before .before in
+    let if2 = translate-virtual-to-physical-address .before .before in
+    let if1 = if2 .before in
+    let is-store = if1 .before in
+    let start = is-store .before .before .before .before in
+    let o =
+    read-done _ (length (start .args .out .now)) (sym (is-store .is-store .ensures) ∙ not-false _ (if1 .if1 .left))
+    (omega (arith, if2 .if2 .left)) in (
+      sym o,
+      mem-read-phys .mem-read-phys .ensures
+          ∙ rw (translate-virtual-to-physical-address .translate-virtual-to-physical-address .ensures)
+          (sym (out-done _ _ _ _ o)),
+    )
+
 pub mem-read-spec : {M : Type 1} → statement M
 mem-read-spec =
     tie.close
-    (tie.spec
-    (λ c κs. search needs)
-    (λ c. let o = read-bad _ _ (sym (c .before .is-store .ensures) ∙ not-true _ (c .if1 .taken)) in
-    (sym o, sym (out-refused _ _ _ _ _ (omega arith) o)))
-    (λ c. let o = read-long _ (length (c .before .before .before .before .before .before .args .out .now)) (sym (c .before .before .is-store .ensures) ∙ not-false _ (c .before .if1 .left)) (omega (arith, c .if2 .taken)) in
-    (sym o, sym (out-refused _ _ _ _ _ (omega arith) o)))
-    (λ c. let o = read-done _ (length (c .before .before .before .before .before .before .before .args .out .now)) (sym (c .before .before .before .is-store .ensures) ∙ not-false _ (c .before .before .if1 .left)) (omega (arith, c .before .if2 .left)) in
-    (sym o, read-empty _ _ (c .before .before .before .before .before .before .before .args .out .now) (omega (arith, c .if3 .taken, c .before .if2 .left)) ∙ sym (out-done _ _ _ _ o)))
-    (λ c κs. sound-facts _ (sym (c .before .before .before .is-store .ensures) ∙ not-false _ (c .before .before .if1 .left)))
-    (λ c κs. (sound-facts _ (sym (c .before .before .before .before .before .is-store .ensures) ∙ not-false _ (c .before .before .before .before .if1 .left)), omega (arith, c .before .before .if3 .left)))
-    (λ c. search needs)
-    (λ c. let o = read-done _ (length (c .before .before .before .before .before .before .before .before .before .before .before .before .args .out .now)) (sym (c .before .before .before .before .before .before .before .before .is-store .ensures) ∙ not-false _ (c .before .before .before .before .before .before .before .if1 .left)) (omega (arith, c .before .before .before .before .before .before .if2 .left)) in
-    (sym o, c .before .before .mem-read-phys .ensures ∙ rw (c .before .before .before .before .translate-virtual-to-physical-address .ensures) (sym (out-done _ _ _ _ o)))))
+    (tie.spec (λ c κs. search needs) returns returns-2 returns-3 translate-virtual-to-physical-address-requires
+    mem-read-phys-requires (λ c. search needs) returns-4)

@@ -10,24 +10,57 @@ use borrow.Author.Needs.{needs}
 use Rattle.mmu.proofs.mem_write.Statement.{statement}
 use Rattle.mmu.proofs.mem_write.Tie as tie
 
+returns : tie.Need-returns
+returns c =
+    let is-store = c .before .before in
+    wrote-refused-for _ _ _ BadStore _ (c .refused .ensures)
+    (write-bad _ _ _ (sym (is-store .is-store .ensures) ∙ not-true _ (c .before .if1 .taken)))
+
+returns-2 : tie.Need-returns-2
+returns-2 c =
+    let if1 = c .before .before in
+    let is-store = if1 .before in
+    let start = is-store .before .before .before .before .before .before in
+    wrote-refused-for _ _ _ TooLong _ (c .refused2 .ensures)
+    (write-long _ _ (length (start .args .«data» .now))
+    (sym (is-store .is-store .ensures) ∙ not-false _ (if1 .if1 .left)) (omega (arith, c .before .if2 .taken)))
+
+returns-3 : tie.Need-returns-3
+returns-3 c =
+    let if1 = c .before .before in
+    let is-store = if1 .before in
+    let start = is-store .before .before .before .before .before .before in
+    wrote-empty _ _ (start .args .«data» .now) (sym (is-store .is-store .ensures) ∙ not-false _ (if1 .if1 .left))
+    (omega (arith, c .if3 .taken, c .before .if2 .left))
+
+translate-virtual-to-physical-address-requires : tie.Need-translate-virtual-to-physical-address-requires
+translate-virtual-to-physical-address-requires c κs =
+    let if1 = c .before .before .before .before in
+    let is-store = if1 .before in
+    sound-facts _ (sym (is-store .is-store .ensures) ∙ not-false _ (if1 .if1 .left))
+
+write-at-requires : tie.Need-write-at-requires
+write-at-requires c κs =
+    let if3 = c .before .before .before .before .before in
+    let if2 = if3 .before in
+    let if1 = if2 .before in
+    let is-store = if1 .before in (
+      sound-facts _ (sym (is-store .is-store .ensures) ∙ not-false _ (if1 .if1 .left)),
+      omega (arith, if3 .if3 .left),
+      omega (arith, if2 .if2 .left),
+    )
+
+returns-4 : tie.Need-returns-4
+returns-4 c =
+    let write-at = c .before .before .before .before in
+    let translate-virtual-to-physical-address = write-at .before .before .before in
+    wrote-there (translate-virtual-to-physical-address .translate-virtual-to-physical-address .ensures)
+    (write-at .write-at .ensures)
+
 pub mem-write-spec : {M : Type 1} → statement M
 mem-write-spec =
     tie.close
-    (tie.spec
-    (λ c κs. search needs)
-    (λ c κs. search needs)
-    (λ c. search needs)
-    (λ c. search needs)
-    (λ c. wrote-refused-for _ _ _ BadStore _ (c .refused .ensures) (write-bad _ _ _ (sym (c .before .before .is-store .ensures) ∙ not-true _ (c .before .if1 .taken))))
-    (λ c κs. search needs)
-    (λ c. search needs)
-    (λ c. search needs)
-    (λ c. wrote-refused-for _ _ _ TooLong _ (c .refused2 .ensures) (write-long _ _ (length (c .before .before .before .before .before .before .before .before .before .args .«data» .now)) (sym (c .before .before .before .is-store .ensures) ∙ not-false _ (c .before .before .if1 .left)) (omega (arith, c .before .if2 .taken))))
-    (λ c. search needs)
-    (λ c. search needs)
-    (λ c. wrote-empty _ _ (c .before .before .before .before .before .before .before .before .before .args .«data» .now) (sym (c .before .before .before .is-store .ensures) ∙ not-false _ (c .before .before .if1 .left)) (omega (arith, c .if3 .taken, c .before .if2 .left)))
-    (λ c κs. sound-facts _ (sym (c .before .before .before .before .before .is-store .ensures) ∙ not-false _ (c .before .before .before .before .if1 .left)))
-    (λ c κs. (sound-facts _ (sym (c .before .before .before .before .before .before .before .before .is-store .ensures) ∙ not-false _ (c .before .before .before .before .before .before .before .if1 .left)), omega (arith, c .before .before .before .before .before .if3 .left), omega (arith, c .before .before .before .before .before .before .if2 .left)))
-    (λ c. search needs)
-    (λ c. search needs)
-    (λ c. wrote-there (c .before .before .before .before .before .before .before .translate-virtual-to-physical-address .ensures) (c .before .before .before .before .write-at .ensures)))
+    (tie.spec (λ c κs. search needs) (λ c κs. search needs) (λ c. search needs) (λ c. search needs) returns
+    (λ c κs. search needs) (λ c. search needs) (λ c. search needs) returns-2 (λ c. search needs) (λ c. search needs)
+    returns-3 translate-virtual-to-physical-address-requires write-at-requires (λ c. search needs) (λ c. search needs)
+    returns-4)

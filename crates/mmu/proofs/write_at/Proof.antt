@@ -9,30 +9,40 @@ use Rattle.mmu.proofs.Answers.{wrote-here}
 use Rattle.mmu.proofs.write_at.Statement.{statement}
 use Rattle.mmu.proofs.write_at.Tie as tie
 
-enum-told : tie.Need-enum-told
-enum-told c = search needs
+mul-copy : tie.Need-mul-copy
+mul-copy c =
+    let found = c .before .before in
+    let slot-of = found .before .before in
+    let start = slot-of .before .before .before .before .before in
+    let w = slot-at _ _ _ _ (sym (slot-of .slot-of .ensures) ∙ found .found .given .1) in
+    omega (arith, slot-held _ (start .pre .0) _ _ (w .1))
+
+add-copy : tie.Need-add-copy
+add-copy c =
+    let found = c .before .before in
+    let slot-of = found .before .before in
+    let start = slot-of .before .before .before .before .before in
+    let w = slot-at _ _ _ _ (sym (slot-of .slot-of .ensures) ∙ found .found .given .1) in
+    omega (arith, slot-held _ (start .pre .0) _ _ (w .1))
+
+returns : tie.Need-returns
+returns c =
+    let copy = c .before .before .before in
+    let found = copy .before .before .before in
+    let slot-of = found .before .before in
+    let start = slot-of .before .before .before .before .before in
+    let a = start .args in
+    let h = start .pre in
+    let q = sym (slot-of .slot-of .ensures) ∙ found .found .given .1 in
+    let w = slot-at _ _ _ _ q in
+    wrote-here _ (h .0) _ _ (a .«data» .now) _ _ q (h .2)
+    (put-copied (a .«data» .now) _ (copy .copy .ensures) (omega arith)
+    (omega (arith, slot-held _ (h .0) _ _ (w .1), w .0)))
+    (c .shown-at .ensures)
 
 pub write-at-spec : {M : Type 1} → statement M
 write-at-spec =
     tie.close
-    (tie.spec
-    (λ c κs. search needs)
-    (λ c. search needs)
-    (λ c. let w = slot-at _ _ _ _ (sym (c .before .before .before .before .slot-of .ensures) ∙ c .before .before .found .given .1) in
-    omega (arith, slot-held _ (c .before .before .before .before .before .before .before .before .before .pre .0) _ _ (w .1)))
-    (λ c. let w = slot-at _ _ _ _ (sym (c .before .before .before .before .slot-of .ensures) ∙ c .before .before .found .given .1) in
-    omega (arith, slot-held _ (c .before .before .before .before .before .before .before .before .before .pre .0) _ _ (w .1)))
-    (λ c κs. search needs)
-    (λ c κs. search needs)
-    enum-told
-    (λ c κs. search needs)
-    (λ c. search needs)
-    (λ c. search needs)
-    (λ c. let a = c .before .before .before .before .before .before .before .before .before .before .before .before .before .args in
-    let h = c .before .before .before .before .before .before .before .before .before .before .before .before .before .pre in
-    let q = sym (c .before .before .before .before .before .before .before .before .slot-of .ensures) ∙ c .before .before .before .before .before .before .found .given .1 in
-    let w = slot-at _ _ _ _ q in
-    wrote-here _ (h .0) _ _ (a .«data» .now) _ _ q (h .2) (put-copied (a .«data» .now) _ (c .before .before .before .copy .ensures) (omega arith) (omega (arith, slot-held _ (h .0) _ _ (w .1), w .0))) (c .shown-at .ensures))
-    (λ c. search needs)
-    (λ c. search needs)
-    (λ c. search needs))
+    (tie.spec (λ c κs. search needs) (λ c. search needs) mul-copy add-copy (λ c κs. search needs) (λ c κs. search needs)
+    (λ c. search needs) (λ c κs. search needs) (λ c. search needs) (λ c. search needs) returns (λ c. search needs)
+    (λ c. search needs) (λ c. search needs))

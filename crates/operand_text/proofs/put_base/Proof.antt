@@ -9,7 +9,10 @@ returns : tie.Need-returns
 returns c = rw (c .enum-told .given .1) (nothing (omega arith))
 
 returns-2 : tie.Need-returns-2
-returns-2 c = rw (c .before .before .before .before .before .base .given .1) (c .before .before .put-register .ensures)
+returns-2 c =
+    let put-register = c .before .before in
+    let base = put-register .before .before .before in
+    rw (base .base .given .1) (put-register .put-register .ensures)
 
 pub put-base-spec : {M : Type 1} → statement M
 put-base-spec =

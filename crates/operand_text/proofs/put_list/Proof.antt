@@ -6,13 +6,21 @@ use Rattle.operand_text.proofs.put_list.Statement.{statement}
 use Rattle.operand_text.proofs.put_list.Tie as tie
 
 returns : tie.Need-returns
-returns c = rw (c .enum-told .given .1) (widen (omega arith) (c .before .before .before .before .put-operand .ensures))
+returns c =
+    let put-operand = c .before .before .before .before in
+    rw (c .enum-told .given .1) (widen (omega arith) (put-operand .put-operand .ensures))
 
 returns-2 : tie.Need-returns-2
-returns-2 c = rw (c .before .before .before .before .before .before .before .before .before .second .given .1) ((c .before .before .before .before .before .before .before .before .before .before .before .before .before .put-operand .ensures) then (c .before .before .before .before .before .before .put-byte .ensures) then (c .before .before .put-operand2 .ensures))
+returns-2 c =
+    let put-operand2 = c .before .before in
+    let put-byte = put-operand2 .before .before .before .before in
+    let second = put-byte .before .before .before in
+    let put-operand = second .before .before .before .before in
+    rw (second .second .given .1)
+    (put-operand .put-operand .ensures then put-byte .put-byte .ensures then put-operand2 .put-operand2 .ensures)
 
 pub put-list-spec : {M : Type 1} → statement M
 put-list-spec =
     tie.close
-    (tie.spec (λ c κs. search needs) (λ c. search needs) (λ c. search needs) (λ c κs. search needs) (λ c κs. search needs)
-    (λ c. search needs) returns (λ c. search needs) returns-2)
+    (tie.spec (λ c κs. search needs) (λ c. search needs) (λ c. search needs) (λ c κs. search needs)
+    (λ c κs. search needs) (λ c. search needs) returns (λ c. search needs) returns-2)

@@ -4,7 +4,11 @@ use borrow.Author.Needs.{needs}
 use Rattle.operand_text.proofs.put_register.Statement.{statement}
 use Rattle.operand_text.proofs.put_register.Tie as tie
 
+returns : tie.Need-returns
+returns c =
+    let put-name = c .before .before in
+    let put-byte = put-name .before .before .before .before in
+    (put-byte .put-byte .ensures) then put-name .put-name .ensures
+
 pub put-register-spec : {M : Type 1} → statement M
-put-register-spec =
-    tie.close
-    (tie.spec (λ c κs. search needs) (λ c κs. search needs) (λ c. search needs) (λ c. (c .before .before .before .before .before .before .put-byte .ensures) then (c .before .before .put-name .ensures)))
+put-register-spec = tie.close (tie.spec (λ c κs. search needs) (λ c κs. search needs) (λ c. search needs) returns)

@@ -9,7 +9,10 @@ returns : tie.Need-returns
 returns c = rw (c .enum-told .given .1) (nothing (omega arith))
 
 returns-2 : tie.Need-returns-2
-returns-2 c = rw (c .before .before .before .before .before .scale .given .1) (c .before .before .put-decimal .ensures)
+returns-2 c =
+    let put-decimal = c .before .before in
+    let scale = put-decimal .before .before .before in
+    rw (scale .scale .given .1) (put-decimal .put-decimal .ensures)
 
 pub put-scale-spec : {M : Type 1} → statement M
 put-scale-spec =

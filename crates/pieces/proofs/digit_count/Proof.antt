@@ -5,12 +5,10 @@ use lib.Count.{leading-le}
 use Rattle.pieces.proofs.digit_count.Statement.{statement}
 use Rattle.pieces.proofs.digit_count.Tie as tie
 
+sub-bits : tie.Need-sub-bits
+sub-bits c = omega (arith, leading-le 64 (c .args .x))
+
 pub digit-count-spec : {M : Type 1} → statement M
 digit-count-spec =
     tie.close
-    (tie.spec
-    (λ c. omega (arith, leading-le 64 (c .args .x)))
-    (λ c. search needs)
-    (λ c. search needs)
-    (λ c. search needs)
-    (λ c. search needs))
+    (tie.spec sub-bits (λ c. search needs) (λ c. search needs) (λ c. search needs) (λ c. search needs))

@@ -5,11 +5,11 @@ use borrow.Author.Tests.{lt-ltb, le-ltb}
 use Rattle.pieces.proofs.hex_byte.Statement.{statement}
 use Rattle.pieces.proofs.hex_byte.Tie as tie
 
+returns : tie.Need-returns
+returns c = simp (lt-ltb _ _ (c .if1 .taken))
+
+returns-2 : tie.Need-returns-2
+returns-2 c = simp (le-ltb _ _ (c .if1 .left)) (omega arith)
+
 pub hex-byte-spec : {M : Type 1} → statement M
-hex-byte-spec =
-    tie.close
-    (tie.spec
-    (λ c. search needs)
-    (λ c. search needs)
-    (λ c. simp (lt-ltb _ _ (c .if1 .taken)))
-    (λ c. simp (le-ltb _ _ (c .if1 .left)) (omega arith)))
+hex-byte-spec = tie.close (tie.spec (λ c. search needs) (λ c. search needs) returns returns-2)

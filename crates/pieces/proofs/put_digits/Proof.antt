@@ -15,22 +15,32 @@ Inv-loop out₀ at n x o₀ k₀ out o k = Rest out₀ at (hexDigits n x) out o 
 abbrev μ-loop : tie.MeasureT-loop
 μ-loop out₀ at n x o₀ k₀ out o k = k
 
+loop-holds : tie.Need-loop-holds Inv-loop μ-loop
+loop-holds c = (begin (omega arith), omega arith)
+
 loop-again : tie.Need-loop-again Inv-loop μ-loop
 loop-again c =
-    let l = c .before .before .before .before .before .before .loop in
-    let x = c .before .before .before .before .before .before .before .before .args .x in
-    let p = rw (c .before .before .before .hex-byte .ensures) at (c .before .before .put-byte .ensures) in
+    let put-byte = c .before .before in
+    let hex-byte = put-byte .before in
+    let loop = hex-byte .before .before .before in
+    let l = loop .loop in
+    let x = loop .before .before .args .x in
+    let p = rw (hex-byte .hex-byte .ensures) at (put-byte .put-byte .ensures) in
     (onward (rw (digits-pos (l .k) x (omega arith)) at (l .inv .0)) p, omega arith)
+
+same-length : tie.Need-same-length Inv-loop μ-loop
+same-length c = same-long (c .before .loop .inv .0)
 
 returns : tie.Need-returns Inv-loop μ-loop
 unfolding hexDigits
 returns c =
+    let start = c .before .before .before in
     let l = c .before .loop in
     let z : l .k ≡ 0 = omega arith in
-    finish (rw (z, hexDigits) at (l .inv .0)) (rw length-digits (c .before .before .before .pre))
+    finish (rw (z, hexDigits) at (l .inv .0)) (rw length-digits (start .pre))
 
 pub put-digits-spec : {M : Type 1} → statement M
 put-digits-spec =
     tie.close
-    (tie.spec Inv-loop μ-loop (λ c. (begin (omega arith), omega arith)) (λ c. search needs) (λ c. search needs) (λ c. search needs) (λ c. search needs)
-    (λ c κs. search needs) (λ c κs. search needs) (λ c. search needs) loop-again (λ c. same-long (c .before .loop .inv .0)) returns)
+    (tie.spec Inv-loop μ-loop loop-holds (λ c. search needs) (λ c. search needs) (λ c. search needs) (λ c. search needs)
+    (λ c κs. search needs) (λ c κs. search needs) (λ c. search needs) loop-again same-length returns)

@@ -4,9 +4,10 @@ use Rattle.pieces.proofs.put_hex.Statement.{statement}
 use Rattle.pieces.proofs.put_hex.Tie as tie
 
 returns : tie.Need-returns
-returns c = rw (c .before .before .before .digit-count .ensures) at (c .before .before .put-digits .ensures)
+returns c =
+    let put-digits = c .before .before in
+    let digit-count = put-digits .before in
+    rw (digit-count .digit-count .ensures) at (put-digits .put-digits .ensures)
 
 pub put-hex-spec : {M : Type 1} → statement M
-put-hex-spec =
-    tie.close
-    (tie.spec (λ c κs. search needs) (λ c κs. search needs) (λ c. search needs) returns)
+put-hex-spec = tie.close (tie.spec (λ c κs. search needs) (λ c κs. search needs) (λ c. search needs) returns)

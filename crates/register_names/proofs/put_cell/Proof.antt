@@ -16,41 +16,53 @@ Inv-loop out₀ at n o₀ k₀ out o k = Rest out₀ at (nameAt n) out o (nameFr
 abbrev μ-loop : tie.MeasureT-loop
 μ-loop out₀ at n o₀ k₀ out o k = 4 - k
 
+loop-holds : tie.Need-loop-holds Inv-loop μ-loop
+loop-holds c = (rw add-zero (begin (omega arith)), omega arith)
+
+same-length : tie.Need-same-length Inv-loop μ-loop
+same-length c =
+    let loop = c .before .before .before in
+    same-long (loop .loop .inv .0)
+
+returns : tie.Need-returns Inv-loop μ-loop
+returns c =
+    let loop = c .before .before .before in
+    let l = loop .loop in
+    let n = loop .before .before .args .n in
+    finish (rw (from-space (4 - l .k) (4 * n + l .k) (sym (c .before .name-byte .ensures) ∙ c .if1 .taken))
+    at (l .inv .0))
+    (from-most 4 (4 * n))
+
 loop-again : tie.Need-loop-again Inv-loop μ-loop
 loop-again c =
-    let l = c .before .before .before .before .before .before .before .loop in
-    let n = c .before .before .before .before .before .before .before .before .before .args .n in
-    let b = c .before .before .before .before .before .name-byte .ensures in
-    let ne = c .before .before .before .before .if1 .left in
-    let p = rw b at (c .before .before .put-byte .ensures) in
+    let put-byte = c .before .before in
+    let if1 = put-byte .before .before in
+    let name-byte = if1 .before in
+    let loop = name-byte .before .before in
+    let l = loop .loop in
+    let n = loop .before .before .args .n in
+    let b = name-byte .name-byte .ensures in
+    let ne = if1 .if1 .left in
+    let p = rw b at (put-byte .put-byte .ensures) in
     let e : 4 - l .k - 1 ≡ 4 - (l .k + 1) = omega arith in
     let f : 4 * n + l .k + 1 ≡ 4 * n + (l .k + 1) = omega arith in (
       rw (e, f) at (onward (rw (from-pos (4 - l .k) (4 * n + l .k) (omega arith) (λ h. ne (b ∙ h))) at (l .inv .0)) p),
       omega arith,
     )
 
-pub put-cell-spec : {M : Type 1} → statement M
+same-length-2 : tie.Need-same-length-2 Inv-loop μ-loop
+same-length-2 c = same-long (c .before .loop .inv .0)
+
+returns-2 : tie.Need-returns-2 Inv-loop μ-loop
 unfolding nameFrom
-put-cell-spec =
-    tie.close
-    (tie.spec
-    Inv-loop
-    μ-loop
-    (λ c. (rw add-zero (begin (omega arith)), omega arith))
-    (λ c. omega arith)
-    (λ c. omega arith)
-    (λ c κs. omega arith)
-    (λ c. same-long (c .before .before .before .loop .inv .0))
-    (λ c.
-    let l = c .before .before .before .loop in
-    let n = c .before .before .before .before .before .args .n in
-    finish (rw (from-space (4 - l .k) (4 * n + l .k) (sym (c .before .name-byte .ensures) ∙ c .if1 .taken)) at (l .inv .0)) (from-most 4 (4 * n)))
-    (λ c κs. search needs)
-    (λ c. omega arith)
-    (λ c. omega arith)
-    loop-again
-    (λ c. same-long (c .before .loop .inv .0))
-    (λ c.
+returns-2 c =
+    let start = c .before .before .before in
     let l = c .before .loop in
     let z : l .k ≡ 4 = omega arith in
-    finish (rw z at (l .inv .0)) (from-most 4 (4 * c .before .before .before .args .n))))
+    finish (rw z at (l .inv .0)) (from-most 4 (4 * start .args .n))
+
+pub put-cell-spec : {M : Type 1} → statement M
+put-cell-spec =
+    tie.close
+    (tie.spec Inv-loop μ-loop loop-holds (λ c. omega arith) (λ c. omega arith) (λ c κs. omega arith) same-length returns
+    (λ c κs. search needs) (λ c. omega arith) (λ c. omega arith) loop-again same-length-2 returns-2)

@@ -3,11 +3,11 @@ use borrow.Author.Needs.{needs}
 use Rattle.register_names.proofs.put_name.Statement.{statement}
 use Rattle.register_names.proofs.put_name.Tie as tie
 
+returns : tie.Need-returns
+returns c =
+    let put-cell = c .before .before in
+    let name-place = put-cell .before in
+    rw (name-place .name-place .ensures .0) at (put-cell .put-cell .ensures)
+
 pub put-name-spec : {M : Type 1} → statement M
-put-name-spec =
-    tie.close
-    (tie.spec
-    (λ c κs. search needs)
-    (λ c κs. search needs)
-    (λ c. search needs)
-    (λ c. rw (c .before .before .before .name-place .ensures .0) at (c .before .before .put-cell .ensures)))
+put-name-spec = tie.close (tie.spec (λ c κs. search needs) (λ c κs. search needs) (λ c. search needs) returns)

@@ -3,9 +3,8 @@ use borrow.Author.Needs.{needs}
 use Rattle.rows.proofs.flag_span.Statement.{statement}
 use Rattle.rows.proofs.flag_span.Tie as tie
 
+returns : tie.Need-returns
+returns c = rw (c .flag-place .ensures)
+
 pub flag-span-spec : {M : Type 1} → statement M
-flag-span-spec =
-    tie.close
-    (tie.spec
-    (λ c κs. search needs)
-    (λ c. rw (c .flag-place .ensures)))
+flag-span-spec = tie.close (tie.spec (λ c κs. search needs) returns)

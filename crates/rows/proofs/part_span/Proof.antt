@@ -5,15 +5,13 @@ use borrow.Author.Needs.{needs}
 use Rattle.rows.proofs.part_span.Statement.{statement}
 use Rattle.rows.proofs.part_span.Tie as tie
 
-enum-told : tie.Need-enum-told
-enum-told c = search needs
+returns : tie.Need-returns
+returns c = ap partSpan (sym (c .enum-told .given .1))
+
+returns-2 : tie.Need-returns-2
+returns-2 c =
+    let register = c .before .before in
+    c .read-span .ensures ∙ ap partSpan (sym (register .register .given .1))
 
 pub part-span-spec : {M : Type 1} → statement M
-part-span-spec =
-    tie.close
-    (tie.spec
-    enum-told
-    (λ c. search needs)
-    (λ c κs. search needs)
-    (λ c. ap partSpan (sym (c .enum-told .given .1)))
-    (λ c. c .read-span .ensures ∙ ap partSpan (sym (c .before .before .register .given .1))))
+part-span-spec = tie.close (tie.spec (λ c. search needs) (λ c. search needs) (λ c κs. search needs) returns returns-2)

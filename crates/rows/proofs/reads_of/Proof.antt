@@ -4,42 +4,60 @@ use borrow.Author.Needs.{needs}
 use Rattle.rows.proofs.reads_of.Statement.{statement}
 use Rattle.rows.proofs.reads_of.Tie as tie
 
-enum-told : tie.Need-enum-told
-enum-told c = search needs
+returns : tie.Need-returns
+unfolding readsOf
+returns c =
+    let call = c .before .before in
+    rw (c .operand-reads .ensures, call .call .given .1)
+
+returns-2 : tie.Need-returns-2
+unfolding readsOf
+returns-2 c =
+    let call2 = c .before .before in
+    rw (c .address-reads .ensures, call2 .call2 .given .1)
+
+returns-3 : tie.Need-returns-3
+unfolding readsOf
+returns-3 c =
+    let call3 = c .before .before in
+    rw (c .address-reads2 .ensures, call3 .call3 .given .1)
+
+returns-4 : tie.Need-returns-4
+unfolding readsOf
+returns-4 c = rw (c .two-spans .ensures, c .before .enum-told .given .1)
+
+returns-5 : tie.Need-returns-5
+unfolding readsOf
+returns-5 c = rw (c .two-spans2 .ensures, c .before .enum-told2 .given .1)
+
+returns-6 : tie.Need-returns-6
+unfolding readsOf
+returns-6 c = rw (c .one-span .ensures, c .before .enum-told3 .given .1)
+
+returns-7 : tie.Need-returns-7
+unfolding readsOf
+returns-7 c = rw (c .one-span2 .ensures, c .before .enum-told4 .given .1)
+
+returns-8 : tie.Need-returns-8
+unfolding readsOf
+returns-8 c =
+    let call4 = c .before .before .before in
+    rw (c .one-span3 .ensures, c .before .flag-span .ensures, call4 .call4 .given .1)
+
+returns-9 : tie.Need-returns-9
+unfolding readsOf
+returns-9 c = rw (c .no-spans .ensures, c .before .enum-told5 .given .1)
+
+returns-10 : tie.Need-returns-10
+unfolding readsOf
+returns-10 c = rw (c .no-spans2 .ensures, c .before .enum-told6 .given .1)
 
 pub reads-of-spec : {M : Type 1} → statement M
-unfolding readsOf
 reads-of-spec =
     tie.close
-    (tie.spec
-    (λ c. search needs)
-    (λ c κs. search needs)
-    (λ c. search needs)
-    (λ c κs. search needs)
-    (λ c. search needs)
-    (λ c κs. search needs)
-    enum-told
-    (λ c κs. search needs)
-    (λ c. search needs)
-    (λ c κs. search needs)
-    (λ c. search needs)
-    (λ c κs. search needs)
-    (λ c. search needs)
-    (λ c κs. search needs)
-    (λ c. search needs)
-    (λ c κs. search needs)
-    (λ c κs. search needs)
-    (λ c. search needs)
-    (λ c κs. search needs)
-    (λ c. search needs)
-    (λ c κs. search needs)
-    (λ c. rw (c .operand-reads .ensures, c .before .before .call .given .1))
-    (λ c. rw (c .address-reads .ensures, c .before .before .call2 .given .1))
-    (λ c. rw (c .address-reads2 .ensures, c .before .before .call3 .given .1))
-    (λ c. rw (c .two-spans .ensures, c .before .enum-told .given .1))
-    (λ c. rw (c .two-spans2 .ensures, c .before .enum-told2 .given .1))
-    (λ c. rw (c .one-span .ensures, c .before .enum-told3 .given .1))
-    (λ c. rw (c .one-span2 .ensures, c .before .enum-told4 .given .1))
-    (λ c. rw (c .one-span3 .ensures, c .before .flag-span .ensures, c .before .before .before .call4 .given .1))
-    (λ c. rw (c .no-spans .ensures, c .before .enum-told5 .given .1))
-    (λ c. rw (c .no-spans2 .ensures, c .before .enum-told6 .given .1)))
+    (tie.spec (λ c. search needs) (λ c κs. search needs) (λ c. search needs) (λ c κs. search needs) (λ c. search needs)
+    (λ c κs. search needs) (λ c. search needs) (λ c κs. search needs) (λ c. search needs) (λ c κs. search needs)
+    (λ c. search needs) (λ c κs. search needs) (λ c. search needs) (λ c κs. search needs) (λ c. search needs)
+    (λ c κs. search needs) (λ c κs. search needs) (λ c. search needs) (λ c κs. search needs) (λ c. search needs)
+    (λ c κs. search needs) returns returns-2 returns-3 returns-4 returns-5 returns-6 returns-7 returns-8 returns-9
+    returns-10)

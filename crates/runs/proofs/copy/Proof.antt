@@ -22,42 +22,48 @@ returns : tie.Need-returns Inv-loop μ-loop
 returns c = put-none (first-fails _ (lacks _ _ _ _ (c .before .has-room .ensures) (c .if1 .taken)))
 
 returns-2 : tie.Need-returns-2 Inv-loop μ-loop
-returns-2 c = put-none (second-fails (room-yes _ _ _ (has _ _ _ _ (c .before .before .before .has-room .ensures) (c .before .before .if1 .left))) (lacks _ _ _ _ (c .before .has-room2 .ensures) (c .if2 .taken)))
+returns-2 c =
+    let if1 = c .before .before in
+    let has-room = if1 .before in
+    put-none (second-fails (room-yes _ _ _ (has _ _ _ _ (has-room .has-room .ensures) (if1 .if1 .left)))
+    (lacks _ _ _ _ (c .before .has-room2 .ensures) (c .if2 .taken)))
 
 loop-holds : tie.Need-loop-holds Inv-loop μ-loop
 unfolding filled
-loop-holds c = (omega arith, has _ _ _ _ (c .before .before .before .has-room .ensures) (c .before .before .if1 .left), has _ _ _ _ (c .before .has-room2 .ensures) (c .if2 .left), refl, refl)
+loop-holds c =
+    let if1 = c .before .before in
+    let has-room = if1 .before in (
+      omega arith,
+      has _ _ _ _ (has-room .has-room .ensures) (if1 .if1 .left),
+      has _ _ _ _ (c .before .has-room2 .ensures) (c .if2 .left),
+      refl,
+      refl,
+    )
 
 loop-again : tie.Need-loop-again Inv-loop μ-loop
 loop-again c =
-    let a = c .before .before .before .before .before .before .before .before .before .args in
-    let m = c .before .before .loop in
-    (omega arith, m .inv .1, m .inv .2, rw length-set (m .inv .3), rw (m .inv .4) (filled-more (a .dst .now) (a .at) (bytesOf (a .src .now) (a .from)) (m .k)))
+    let loop = c .before .before in
+    let a = loop .before .before .before .before .before .before .before .args in
+    let m = loop .loop in (
+      omega arith,
+      m .inv .1,
+      m .inv .2,
+      rw length-set (m .inv .3),
+      rw (m .inv .4) (filled-more (a .dst .now) (a .at) (bytesOf (a .src .now) (a .from)) (m .k)),
+    )
 
 returns-3 : tie.Need-returns-3 Inv-loop μ-loop
 returns-3 c =
     let a = c .before .before .before .before .before .before .before .before .args in
     let m = c .before .loop in
     let e : m .k ≡ a .n = omega arith in
-    put-done (both (room-yes (length (a .src .now)) (a .from) (a .n) (m .inv .1)) (room-yes (length (a .dst .now)) (a .at) (a .n) (m .inv .2))) (m .inv .4 ∙ ap (λ (j : ℕ). filled (a .dst .now) (a .at) (bytesOf (a .src .now) (a .from)) j) e)
+    put-done (both (room-yes (length (a .src .now)) (a .from) (a .n) (m .inv .1))
+    (room-yes (length (a .dst .now)) (a .at) (a .n) (m .inv .2)))
+    (m .inv .4 ∙ ap (λ (j : ℕ). filled (a .dst .now) (a .at) (bytesOf (a .src .now) (a .from)) j) e)
 
 pub copy-spec : {M : Type 1} → statement M
 copy-spec =
     tie.close
-    (tie.spec
-    Inv-loop
-    μ-loop
-    (λ c κs. search needs)
-    returns
-    (λ c κs. search needs)
-    returns-2
-    loop-holds
-    (λ c. search needs)
-    (λ c. search needs)
-    (λ c. search needs)
-    (λ c. search needs)
-    (λ c. search needs)
-    (λ c. search needs)
-    loop-again
-    (λ c. search needs)
-    returns-3)
+    (tie.spec Inv-loop μ-loop (λ c κs. search needs) returns (λ c κs. search needs) returns-2 loop-holds
+    (λ c. search needs) (λ c. search needs) (λ c. search needs) (λ c. search needs) (λ c. search needs)
+    (λ c. search needs) loop-again (λ c. search needs) returns-3)

@@ -16,6 +16,9 @@ Inv-loop out₀ at n v k₀ out k = (k ≤ n) × (at + n ≤ length out₀) × (
 abbrev μ-loop : tie.MeasureT-loop
 μ-loop out₀ at n v k₀ out k = n - k
 
+returns : tie.Need-returns Inv-loop μ-loop
+returns c = put-none (lacks _ _ _ _ (c .before .has-room .ensures) (c .if1 .taken))
+
 loop-holds : tie.Need-loop-holds Inv-loop μ-loop
 unfolding filled
 loop-holds c = (omega arith, has _ _ _ _ (c .before .has-room .ensures) (c .if1 .left), refl, refl)
@@ -31,21 +34,11 @@ returns-2 c =
     let a = c .before .before .before .before .before .args in
     let m = c .before .loop in
     let e : m .k ≡ a .n = omega arith in
-    put-done (room-yes (length (a .out .now)) (a .at) (a .n) (m .inv .1)) (m .inv .3 ∙ ap (λ (j : ℕ). filled (a .out .now) (a .at) (λ (i : ℕ). a .v) j) e)
+    put-done (room-yes (length (a .out .now)) (a .at) (a .n) (m .inv .1))
+    (m .inv .3 ∙ ap (λ (j : ℕ). filled (a .out .now) (a .at) (λ (i : ℕ). a .v) j) e)
 
 pub fill-spec : {M : Type 1} → statement M
 fill-spec =
     tie.close
-    (tie.spec
-    Inv-loop
-    μ-loop
-    (λ c κs. search needs)
-    (λ c. put-none (lacks _ _ _ _ (c .before .has-room .ensures) (c .if1 .taken)))
-    loop-holds
-    (λ c. search needs)
-    (λ c. search needs)
-    (λ c. search needs)
-    (λ c. search needs)
-    loop-again
-    (λ c. search needs)
-    returns-2)
+    (tie.spec Inv-loop μ-loop (λ c κs. search needs) returns loop-holds (λ c. search needs) (λ c. search needs)
+    (λ c. search needs) (λ c. search needs) loop-again (λ c. search needs) returns-2)

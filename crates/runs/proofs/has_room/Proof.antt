@@ -5,9 +5,15 @@ use Rattle.runs.proofs.Puts.{room-by, room-no}
 use Rattle.runs.proofs.has_room.Statement.{statement}
 use Rattle.runs.proofs.has_room.Tie as tie
 
+returns : tie.Need-returns
+returns c =
+    let start = c .before in
+    sym (room-no (start .args .length) (start .args .at) (start .args .n) (omega (arith, c .if1 .taken)))
+
+returns-2 : tie.Need-returns-2
+returns-2 c =
+    let start = c .before in
+    room-by (start .args .length) (start .args .at) (start .args .n) (c .if1 .left)
+
 pub has-room-spec : {M : Type 1} → statement M
-has-room-spec =
-    tie.close
-    (tie.spec
-    (λ c. sym (room-no (c .before .args .length) (c .before .args .at) (c .before .args .n) (omega (arith, c .if1 .taken))))
-    (λ c. room-by (c .before .args .length) (c .before .args .at) (c .before .args .n) (c .if1 .left)))
+has-room-spec = tie.close (tie.spec returns returns-2)

@@ -12,13 +12,20 @@ use Rattle.runs.proofs.put_words.Statement.{statement}
 use Rattle.runs.proofs.put_words.Tie as tie
 
 abbrev Inv-loop : tie.InvT-loop
-Inv-loop out₀ at words k₀ out k = (k ≤ length words) × (at + 8 * length words ≤ length out₀) × (length out ≡ length out₀) × (out ≡ filled out₀ at (laneIn words) (8 * k))
+Inv-loop out₀ at words k₀ out k =
+    (k ≤ length words) × (at + 8 * length words ≤ length out₀) × (length out ≡ length out₀)
+    × (out ≡ filled out₀ at (laneIn words) (8 * k))
 
 abbrev μ-loop : tie.MeasureT-loop
 μ-loop out₀ at words k₀ out k = length words - k
 
 returns : tie.Need-returns Inv-loop μ-loop
-returns c = let a = c .before .before .before .args in put-none (room-no (length (a .out .now)) (a .at) (8 * length (a .words .now)) (omega (arith, c .if1 .taken)))
+returns c =
+    let a = c .before .before .before .args in
+    put-none (room-no (length (a .out .now)) (a .at) (8 * length (a .words .now)) (omega (arith, c .if1 .taken)))
+
+returns-2 : tie.Need-returns-2 Inv-loop μ-loop
+returns-2 c = put-none (lacks _ _ _ _ (c .before .has-room .ensures) (c .if2 .taken))
 
 loop-holds : tie.Need-loop-holds Inv-loop μ-loop
 unfolding filled
@@ -26,12 +33,16 @@ loop-holds c = (omega arith, has _ _ _ _ (c .before .has-room .ensures) (c .if2 
 
 loop-again : tie.Need-loop-again Inv-loop μ-loop
 loop-again c =
-    let a = c .before .before .before .before .before .before .before .before .before .before .before .before .before .before .args in
-    let m = c .before .before .before .before .before .before .before .before .loop in
-    let w = c .before .before .before .before .before .word-to-bytes in
+    let copy = c .before .before in
+    let word-to-bytes = copy .before .before .before in
+    let loop = word-to-bytes .before .before .before in
+    let a = loop .before .before .before .before .before .before .args in
+    let m = loop .loop in
+    let w = word-to-bytes .word-to-bytes in
     let e : length (w .result) ≡ 8 = rw (w .ensures) (length-toBytes 8 _) in
-    let put = put-copied (w .result) 0 (c .before .before .copy .ensures) (omega (arith, e)) (omega (arith, m .inv .1)) in
-    let more : c .before .before .copy .last .0 ≡ filled (a .out .now) (a .at) (laneIn (a .words .now)) (8 * (m .k + 1)) = put ∙ rw (m .inv .3, w .ensures) (word-more (a .out .now) (a .at) (a .words .now) (m .k)) in
+    let put = put-copied (w .result) 0 (copy .copy .ensures) (omega (arith, e)) (omega (arith, m .inv .1)) in
+    let more : copy .copy .last .0 ≡ filled (a .out .now) (a .at) (laneIn (a .words .now)) (8 * (m .k + 1)) =
+    put ∙ rw (m .inv .3, w .ensures) (word-more (a .out .now) (a .at) (a .words .now) (m .k)) in
     (omega arith, m .inv .1, rw more (length-filled _ _ _ _), more)
 
 returns-3 : tie.Need-returns-3 Inv-loop μ-loop
@@ -39,28 +50,13 @@ returns-3 c =
     let a = c .before .before .before .before .before .before .before .args in
     let m = c .before .loop in
     let e : 8 * m .k ≡ 8 * length (a .words .now) = omega arith in
-    put-done (room-yes (length (a .out .now)) (a .at) (8 * length (a .words .now)) (m .inv .1)) (m .inv .3 ∙ ap (λ (j : ℕ). filled (a .out .now) (a .at) (laneIn (a .words .now)) j) e)
+    put-done (room-yes (length (a .out .now)) (a .at) (8 * length (a .words .now)) (m .inv .1))
+    (m .inv .3 ∙ ap (λ (j : ℕ). filled (a .out .now) (a .at) (laneIn (a .words .now)) j) e)
 
 pub put-words-spec : {M : Type 1} → statement M
 put-words-spec =
     tie.close
-    (tie.spec
-    Inv-loop
-    μ-loop
-    returns
-    (λ c. search needs)
-    (λ c κs. search needs)
-    (λ c. put-none (lacks _ _ _ _ (c .before .has-room .ensures) (c .if2 .taken)))
-    loop-holds
-    (λ c. search needs)
-    (λ c. search needs)
-    (λ c κs. search needs)
-    (λ c. search needs)
-    (λ c. search needs)
-    (λ c. search needs)
-    (λ c κs. search needs)
-    (λ c. search needs)
-    (λ c. search needs)
-    loop-again
-    (λ c. search needs)
+    (tie.spec Inv-loop μ-loop returns (λ c. search needs) (λ c κs. search needs) returns-2 loop-holds
+    (λ c. search needs) (λ c. search needs) (λ c κs. search needs) (λ c. search needs) (λ c. search needs)
+    (λ c. search needs) (λ c κs. search needs) (λ c. search needs) (λ c. search needs) loop-again (λ c. search needs)
     returns-3)

@@ -6,12 +6,18 @@ use Rattle.runs.proofs.Puts.{room-le}
 use Rattle.runs.proofs.word_at.Statement.{statement}
 use Rattle.runs.proofs.word_at.Tie as tie
 
-pub word-at-spec : {M : Type 1} → statement M
+word-from-requires : tie.Need-word-from-requires
+word-from-requires c κs = room-le _ _ _ (sym (c .before .has-room .ensures) ∙ c .if1 .taken)
+
+returns : tie.Need-returns
 unfolding wordIn
-word-at-spec =
-    tie.close
-    (tie.spec
-    (λ c κs. search needs)
-    (λ c κs. room-le _ _ _ (sym (c .before .has-room .ensures) ∙ c .if1 .taken))
-    (λ c. rw (sym (c .before .before .has-room .ensures) ∙ c .before .if1 .taken) (c .word-from .ensures))
-    (λ c. rw (sym (c .before .has-room .ensures) ∙ c .if1 .left)))
+returns c =
+    let has-room = c .before .before in
+    rw (sym (has-room .has-room .ensures) ∙ c .before .if1 .taken) (c .word-from .ensures)
+
+returns-2 : tie.Need-returns-2
+unfolding wordIn
+returns-2 c = rw (sym (c .before .has-room .ensures) ∙ c .if1 .left)
+
+pub word-at-spec : {M : Type 1} → statement M
+word-at-spec = tie.close (tie.spec (λ c κs. search needs) word-from-requires returns returns-2)

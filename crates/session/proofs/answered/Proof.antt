@@ -3,5 +3,8 @@ use borrow.Author.Needs.{needs}
 use Rattle.session.proofs.answered.Statement.{statement}
 use Rattle.session.proofs.answered.Tie as tie
 
+returns : tie.Need-returns
+returns c = rw (c .reply-of .ensures)
+
 pub answered-spec : {M : Type 1} → statement M
-answered-spec = tie.close (tie.spec (λ c κs. search needs) (λ c. rw (c .reply-of .ensures)))
+answered-spec = tie.close (tie.spec (λ c κs. search needs) returns)

@@ -5,27 +5,26 @@ use borrow.Author.Needs.{needs}
 use Rattle.session.proofs.carry_out.Statement.{statement}
 use Rattle.session.proofs.carry_out.Tie as tie
 
+returns : tie.Need-returns
+returns c =
+    let at-match = c .before .before .before .before in
+    byte (at-match .match .keys1)
+    (beside-left (c .before .mem-read-byte .result) (c .before .mem-read-byte .ensures) (c .answered .ensures))
+
+returns-3 : tie.Need-returns-3
+returns-3 c =
+    let told = c .before .before .before in
+    told-still (told .told .result) (told .told .ensures) (c .still .ensures)
+
+returns-4 : tie.Need-returns-4
+returns-4 c =
+    let show = c .before .before .before .before .before in
+    shown-still (show .show .result) (show .show .ensures) (c .still2 .ensures)
+
 pub carry-out-spec : {M : Type 1} → statement M
 carry-out-spec =
     tie.close
-    (tie.spec
-    (λ c κs. search needs)
-    (λ c κs. search needs)
-    (λ c κs. search needs)
-    (λ c κs. search needs)
-    (λ c κs. search needs)
-    (λ c κs. search needs)
-    (λ c κs. search needs)
-    (λ c. search needs)
-    (λ c. search needs)
-    (λ c. byte (c .before .before .before .before .match .keys1) (beside-left (c .before .mem-read-byte .result) (c .before .mem-read-byte .ensures) (c .answered .ensures)))
-    (λ c. search needs)
-    (λ c. search needs)
-    (λ c. search needs)
-    (λ c. search needs)
-    (λ c. search needs)
-    (λ c. told-still (c .before .before .before .told .result) (c .before .before .before .told .ensures) (c .still .ensures))
-    (λ c. search needs)
-    (λ c. search needs)
-    (λ c. search needs)
-    (λ c. shown-still (c .before .before .before .before .before .show .result) (c .before .before .before .before .before .show .ensures) (c .still2 .ensures)))
+    (tie.spec (λ c κs. search needs) (λ c κs. search needs) (λ c κs. search needs) (λ c κs. search needs)
+    (λ c κs. search needs) (λ c κs. search needs) (λ c κs. search needs) (λ c. search needs) (λ c. search needs) returns
+    (λ c. search needs) (λ c. search needs) (λ c. search needs) (λ c. search needs) (λ c. search needs) returns-3
+    (λ c. search needs) (λ c. search needs) (λ c. search needs) returns-4)

@@ -3,10 +3,8 @@ use borrow.Author.Needs.{needs}
 use Rattle.session.proofs.done.Statement.{statement}
 use Rattle.session.proofs.done.Tie as tie
 
+returns : tie.Need-returns
+returns c = rw (c .before .gave .ensures) at (c .still .ensures)
+
 pub done-spec : {M : Type 1} → statement M
-done-spec =
-    tie.close
-    (tie.spec
-    (λ c κs. search needs)
-    (λ c κs. search needs)
-    (λ c. rw (c .before .gave .ensures) at (c .still .ensures)))
+done-spec = tie.close (tie.spec (λ c κs. search needs) (λ c κs. search needs) returns)

@@ -3,10 +3,8 @@ use borrow.Author.Needs.{needs}
 use Rattle.session.proofs.malformed.Statement.{statement}
 use Rattle.session.proofs.malformed.Tie as tie
 
+returns : tie.Need-returns
+returns c = rw (c .before .none .ensures) at (c .still .ensures)
+
 pub malformed-spec : {M : Type 1} → statement M
-malformed-spec =
-    tie.close
-    (tie.spec
-    (λ c κs. search needs)
-    (λ c κs. search needs)
-    (λ c. rw (c .before .none .ensures) at (c .still .ensures)))
+malformed-spec = tie.close (tie.spec (λ c κs. search needs) (λ c κs. search needs) returns)

@@ -5,11 +5,12 @@ use borrow.Author.Needs.{needs}
 use Rattle.state.proofs.print.Statement.{statement}
 use Rattle.state.proofs.print.Tie as tie
 
+slice-aggregate-write-all : tie.Need-slice-aggregate-write-all
+slice-aggregate-write-all c =
+    let start = c .before .before .before in
+    sym (length-take-le (start .args .n) (start .args .out .now) (c .before .if1 .taken))
+
 pub print-spec : {M : Type 1} → statement M
 print-spec =
     tie.close
-    (tie.spec
-    (λ c. sym (length-take-le (c .before .before .before .args .n) (c .before .before .before .args .out .now) (c .before .if1 .taken)))
-    (λ c κs. search needs)
-    (λ c. search needs)
-    (λ c. search needs))
+    (tie.spec slice-aggregate-write-all (λ c κs. search needs) (λ c. search needs) (λ c. search needs))

@@ -6,16 +6,27 @@ use borrow.Author.Needs.{needs}
 use Rattle.state_lines.proofs.put_line.Statement.{statement}
 use Rattle.state_lines.proofs.put_line.Tie as tie
 
+mul-value : tie.Need-mul-value
+mul-value c =
+    let start = c .before .before in
+    omega (arith, c .get-parent .ensures, parent-below (start .args .register))
+
+array-read-value : tie.Need-array-read-value
+array-read-value c =
+    let start = c .before .before in
+    omega (arith, c .get-parent .ensures, parent-below (start .args .register))
+
+returns : tie.Need-returns
+returns c =
+    let put-hex = c .before .before in
+    let put-bytes = put-hex .before .before .before .before in
+    let put-padded = put-bytes .before .before .before .before .before in
+    let get-parent = put-padded .before .before in
+    (put-padded .put-padded .ensures) then
+    (put-bytes .put-bytes .ensures then (rw (get-parent .get-parent .ensures) at (put-hex .put-hex .ensures)))
+
 pub put-line-spec : {M : Type 1} → statement M
 put-line-spec =
     tie.close
-    (tie.spec
-    (λ c κs. search needs)
-    (λ c. omega (arith, c .get-parent .ensures, parent-below (c .before .before .args .register)))
-    (λ c. omega (arith, c .get-parent .ensures, parent-below (c .before .before .args .register)))
-    (λ c κs. search needs)
-    (λ c. search needs)
-    (λ c κs. search needs)
-    (λ c κs. search needs)
-    (λ c. search needs)
-    (λ c. (c .before .before .before .before .before .before .before .before .before .before .before .put-padded .ensures) then ((c .before .before .before .before .before .before .put-bytes .ensures) then (rw (c .before .before .before .before .before .before .before .before .before .before .before .before .before .get-parent .ensures) at (c .before .before .put-hex .ensures)))))
+    (tie.spec (λ c κs. search needs) mul-value array-read-value (λ c κs. search needs) (λ c. search needs)
+    (λ c κs. search needs) (λ c κs. search needs) (λ c. search needs) returns)

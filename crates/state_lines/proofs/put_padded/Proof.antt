@@ -9,21 +9,28 @@ use borrow.Author.Needs.{needs}
 use Rattle.state_lines.proofs.put_padded.Statement.{statement}
 use Rattle.state_lines.proofs.put_padded.Tie as tie
 
+sub-put-spaces : tie.Need-sub-put-spaces
+sub-put-spaces c =
+    let put-name = c .before .before .before in
+    forward (put-name .put-name .ensures)
+
+sub-put-spaces-2 : tie.Need-sub-put-spaces-2
+sub-put-spaces-2 c =
+    let put-name = c .before .before .before in
+    omega (arith, reach (put-name .put-name .ensures))
+
 returns : tie.Need-returns
 returns c =
-    let a = c .before .before .before .before .before .before .before .before .before .args in
-    let p = c .before .before .before .before .before .before .put-name .ensures in
+    let put-spaces = c .before .before in
+    let put-name = put-spaces .before .before .before .before in
+    let a = put-name .before .before .before .args in
+    let p = put-name .put-name .ensures in
     let near = place-near (a .at) (length (nameOf (a .register))) (omega (arith, p .most)) in
-    let e : c .before .before .before .before .before .before .put-name .result - a .at ≡ length (nameOf (a .register)) = omega (arith, p .next) in
-    tight (p then (rw e at (c .before .before .put-spaces .ensures))) (simp (length-append, length-replicate) (omega (arith, p .most)))
+    let e : put-name .put-name .result - a .at ≡ length (nameOf (a .register)) = omega (arith, p .next) in
+    tight (p then (rw e at (put-spaces .put-spaces .ensures)))
+    (simp (length-append, length-replicate) (omega (arith, p .most)))
 
 pub put-padded-spec : {M : Type 1} → statement M
 put-padded-spec =
     tie.close
-    (tie.spec
-    (λ c κs. search needs)
-    (λ c. forward (c .before .before .before .put-name .ensures))
-    (λ c. omega (arith, reach (c .before .before .before .put-name .ensures)))
-    (λ c κs. search needs)
-    (λ c. search needs)
-    returns)
+    (tie.spec (λ c κs. search needs) sub-put-spaces sub-put-spaces-2 (λ c κs. search needs) (λ c. search needs) returns)

@@ -6,18 +6,27 @@ use borrow.Author.Needs.{needs}
 use Rattle.state_lines.proofs.put_video.Statement.{statement}
 use Rattle.state_lines.proofs.put_video.Tie as tie
 
+returns : tie.Need-returns
+returns c =
+    let put-byte = c .before .before in
+    let if1 = put-byte .before .before in
+    let put-bytes = if1 .before .before .before in
+    let start = put-bytes .before .before .before .before in
+    simp (lt-ltb (start .args .byte) 128 (if1 .if1 .taken))
+    (widen (omega arith) (put-bytes .put-bytes .ensures then put-byte .put-byte .ensures))
+
+returns-2 : tie.Need-returns-2
+returns-2 c =
+    let put-byte3 = c .before .before in
+    let put-byte2 = put-byte3 .before .before .before .before in
+    let if1 = put-byte2 .before .before in
+    let put-bytes = if1 .before .before .before in
+    let start = put-bytes .before .before .before .before in
+    simp (le-ltb (start .args .byte) 128 (if1 .if1 .left))
+    (put-bytes .put-bytes .ensures then (put-byte2 .put-byte2 .ensures then put-byte3 .put-byte3 .ensures))
+
 pub put-video-spec : {M : Type 1} → statement M
 put-video-spec =
     tie.close
-    (tie.spec
-    (λ c. search needs)
-    (λ c κs. search needs)
-    (λ c κs. search needs)
-    (λ c. search needs)
-    (λ c. simp (lt-ltb (c .before .before .before .before .before .before .before .before .before .before .before .args .byte) 128 (c .before .before .before .before .if1 .taken)) (widen (omega arith) ((c .before .before .before .before .before .before .before .put-bytes .ensures) then (c .before .before .put-byte .ensures))))
-    (λ c. search needs)
-    (λ c κs. search needs)
-    (λ c. search needs)
-    (λ c κs. search needs)
-    (λ c. search needs)
-    (λ c. simp (le-ltb (c .before .before .before .before .before .before .before .before .before .before .before .before .before .before .before .args .byte) 128 (c .before .before .before .before .before .before .before .before .if1 .left)) ((c .before .before .before .before .before .before .before .before .before .before .before .put-bytes .ensures) then ((c .before .before .before .before .before .before .put-byte2 .ensures) then (c .before .before .put-byte3 .ensures)))))
+    (tie.spec (λ c. search needs) (λ c κs. search needs) (λ c κs. search needs) (λ c. search needs) returns
+    (λ c. search needs) (λ c κs. search needs) (λ c. search needs) (λ c κs. search needs) (λ c. search needs) returns-2)

@@ -6,15 +6,15 @@ use borrow.Author.Needs.{needs}
 use Rattle.store.proofs.lacking.Statement.{statement}
 use Rattle.store.proofs.lacking.Tie as tie
 
-enum-told : tie.Need-enum-told
-enum-told c = search needs
+returns : tie.Need-returns
+returns c =
+    let find-page = c .before .before in
+    (ap lack (sym (c .enum-told .given .1) ∙ find-page .find-page .ensures), omega arith)
+
+returns-2 : tie.Need-returns-2
+returns-2 c =
+    let find-page = c .before .before in
+    (ap lack (sym (c .enum-told2 .given .1) ∙ find-page .find-page .ensures), omega arith)
 
 pub lacking-spec : {M : Type 1} → statement M
-lacking-spec =
-    tie.close
-    (tie.spec
-    (λ c κs. search needs)
-    enum-told
-    (λ c. search needs)
-    (λ c. (ap lack (sym (c .enum-told .given .1) ∙ c .before .before .find-page .ensures), omega arith))
-    (λ c. (ap lack (sym (c .enum-told2 .given .1) ∙ c .before .before .find-page .ensures), omega arith)))
+lacking-spec = tie.close (tie.spec (λ c κs. search needs) (λ c. search needs) (λ c. search needs) returns returns-2)

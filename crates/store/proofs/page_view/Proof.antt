@@ -8,30 +8,79 @@ use borrow.Author.Needs.{needs}
 use Rattle.store.proofs.page_view.Statement.{statement}
 use Rattle.store.proofs.page_view.Tie as tie
 
-enum-told : tie.Need-enum-told
-enum-told c = search needs
+returns : tie.Need-returns
+returns c =
+    let is-store = c .before .before in
+    sym (view-bad _ _ _ (sym (is-store .is-store .ensures) ∙ not-true _ (c .before .if1 .taken)))
+
+returns-2 : tie.Need-returns-2
+returns-2 c =
+    let is-zero-page = c .before .before in
+    let if1 = is-zero-page .before in
+    let is-store = if1 .before in
+    sym (view-odd _ _ _ (sym (is-store .is-store .ensures) ∙ not-false _ (if1 .if1 .left))
+    (sym (is-zero-page .is-zero-page .ensures) ∙ not-true _ (c .before .if2 .taken)))
+
+mul-from : tie.Need-mul-from
+mul-from c =
+    omega (
+      arith,
+      slot-held _
+          (sound-facts _
+          (sym (c .before .before .before .before .before .before .before .is-store .ensures)
+          ∙ not-false _ (c .before .before .before .before .before .before .if1 .left)))
+          _ _ (sym (c .before .before .before .find-page .ensures) ∙ c .before .found .given .1),
+    )
+
+add-to : tie.Need-add-to
+add-to c =
+    omega (
+      arith,
+      slot-held _
+          (sound-facts _
+          (sym (c .before .before .before .before .before .before .before .is-store .ensures)
+          ∙ not-false _ (c .before .before .before .before .before .before .if1 .left)))
+          _ _ (sym (c .before .before .before .find-page .ensures) ∙ c .before .found .given .1),
+    )
+
+part-result-end-3 : tie.Need-part-result-end-3
+part-result-end-3 c =
+    let find-page = c .before .before .before in
+    let if1 = find-page .before .before .before in
+    let is-store = if1 .before in
+    omega (
+      arith,
+      slot-held _ (sound-facts _ (sym (is-store .is-store .ensures) ∙ not-false _ (if1 .if1 .left))) _ _
+          (sym (find-page .find-page .ensures) ∙ c .before .found .given .1),
+    )
+
+returns-3 : tie.Need-returns-3
+returns-3 c =
+    let found = c .before .before in
+    let find-page = found .before .before in
+    let if2 = find-page .before in
+    let is-zero-page = if2 .before in
+    let if1 = is-zero-page .before in
+    let is-store = if1 .before in
+    view-at _ _ _ _ _ (sym (is-store .is-store .ensures) ∙ not-false _ (if1 .if1 .left))
+    (sym (is-zero-page .is-zero-page .ensures) ∙ not-false _ (if2 .if2 .left)) (find-page .find-page .ensures)
+    (found .found .given .1)
+
+returns-4 : tie.Need-returns-4
+returns-4 c =
+    let find-page = c .before .before in
+    let if2 = find-page .before in
+    let is-zero-page = if2 .before in
+    let if1 = is-zero-page .before in
+    let is-store = if1 .before in
+    view-none _ _ _ _ (sym (is-store .is-store .ensures) ∙ not-false _ (if1 .if1 .left))
+    (sym (is-zero-page .is-zero-page .ensures) ∙ not-false _ (if2 .if2 .left)) (find-page .find-page .ensures)
+    (c .enum-told .given .1)
 
 pub page-view-spec : {M : Type 1} → statement M
 page-view-spec =
     tie.close
-    (tie.spec
-    (λ c κs. search needs)
-    (λ c. search needs)
-    (λ c. search needs)
-    (λ c. search needs)
-    (λ c. sym (view-bad _ _ _ (sym (c .before .before .is-store .ensures) ∙ not-true _ (c .before .if1 .taken))))
-    (λ c κs. search needs)
-    (λ c. search needs)
-    (λ c. search needs)
-    (λ c. search needs)
-    (λ c. sym (view-odd _ _ _ (sym (c .before .before .before .before .is-store .ensures) ∙ not-false _ (c .before .before .before .if1 .left)) (sym (c .before .before .is-zero-page .ensures) ∙ not-true _ (c .before .if2 .taken))))
-    (λ c κs. search needs)
-    (λ c. search needs)
-    (λ c. omega (arith, slot-held _ (sound-facts _ (sym (c .before .before .before .before .before .before .before .is-store .ensures) ∙ not-false _ (c .before .before .before .before .before .before .if1 .left))) _ _ (sym (c .before .before .before .find-page .ensures) ∙ c .before .found .given .1)))
-    (λ c. omega (arith, slot-held _ (sound-facts _ (sym (c .before .before .before .before .before .before .before .is-store .ensures) ∙ not-false _ (c .before .before .before .before .before .before .if1 .left))) _ _ (sym (c .before .before .before .find-page .ensures) ∙ c .before .found .given .1)))
-    (λ c. search needs)
-    (λ c. search needs)
-    (λ c. omega (arith, slot-held _ (sound-facts _ (sym (c .before .before .before .before .before .before .before .is-store .ensures) ∙ not-false _ (c .before .before .before .before .before .before .if1 .left))) _ _ (sym (c .before .before .before .find-page .ensures) ∙ c .before .found .given .1)))
-    enum-told
-    (λ c. view-at _ _ _ _ _ (sym (c .before .before .before .before .before .before .before .before .is-store .ensures) ∙ not-false _ (c .before .before .before .before .before .before .before .if1 .left)) (sym (c .before .before .before .before .before .before .is-zero-page .ensures) ∙ not-false _ (c .before .before .before .before .before .if2 .left)) (c .before .before .before .before .find-page .ensures) (c .before .before .found .given .1))
-    (λ c. view-none _ _ _ _ (sym (c .before .before .before .before .before .before .is-store .ensures) ∙ not-false _ (c .before .before .before .before .before .if1 .left)) (sym (c .before .before .before .before .is-zero-page .ensures) ∙ not-false _ (c .before .before .before .if2 .left)) (c .before .before .find-page .ensures) (c .enum-told .given .1)))
+    (tie.spec (λ c κs. search needs) (λ c. search needs) (λ c. search needs) (λ c. search needs) returns
+    (λ c κs. search needs) (λ c. search needs) (λ c. search needs) (λ c. search needs) returns-2 (λ c κs. search needs)
+    (λ c. search needs) mul-from add-to (λ c. search needs) (λ c. search needs) part-result-end-3 (λ c. search needs)
+    returns-3 returns-4)

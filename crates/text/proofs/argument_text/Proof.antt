@@ -3,10 +3,8 @@ use borrow.Author.Needs.{needs}
 use Rattle.text.proofs.argument_text.Statement.{statement}
 use Rattle.text.proofs.argument_text.Tie as tie
 
+returns : tie.Need-returns
+returns c = c .before .before .format .ensures
+
 pub argument-text-spec : {M : Type 1} → statement M
-argument-text-spec =
-    tie.close
-    (tie.spec
-    (λ c κs. search needs)
-    (λ c. search needs)
-    (λ c. c .before .before .format .ensures))
+argument-text-spec = tie.close (tie.spec (λ c κs. search needs) (λ c. search needs) returns)

@@ -5,23 +5,37 @@ use borrow.Author.Needs.{needs}
 use Rattle.text.proofs.arguments_text.Statement.{statement}
 use Rattle.text.proofs.arguments_text.Tie as tie
 
-enum-told : tie.Need-enum-told
-enum-told c = search needs
+returns : tie.Need-returns
+returns c =
+    let enum-told = c .before .before in
+    declined (rw (enum-told .enum-told .given .1, c .enum-told2 .given .1))
+
+returns-2 : tie.Need-returns-2
+returns-2 c =
+    let enum-told = c .before .before in
+    rw (enum-told .enum-told .given .1, c .enum-told3 .given .1) nothing-said
+
+returns-3 : tie.Need-returns-3
+returns-3 c =
+    let size = c .before .before .before in
+    let first = size .before .before in
+    let start = first .before .before .before in
+    declined (by-size (start .args .arguments) (first .first .given .1) (size .size .ensures)
+    ∙ rw (c .before .selected .given .1))
+
+returns-4 : tie.Need-returns-4
+returns-4 c =
+    let write-list = c .before .before in
+    let selected2 = write-list .before .before .before in
+    let size = selected2 .before .before in
+    let first = size .before .before in
+    let start = first .before .before .before in
+    rw (by-size (start .args .arguments) (first .first .given .1) (size .size .ensures), selected2 .selected2 .given .1)
+    (write-list .write-list .ensures)
 
 pub arguments-text-spec : {M : Type 1} → statement M
 arguments-text-spec =
     tie.close
-    (tie.spec
-    (λ c. search needs)
-    enum-told
-    (λ c. search needs)
-    (λ c. declined (rw (c .before .before .enum-told .given .1, c .enum-told2 .given .1)))
-    (λ c. search needs)
-    (λ c. rw (c .before .before .enum-told .given .1, c .enum-told3 .given .1) nothing-said)
-    (λ c κs. search needs)
-    (λ c. search needs)
-    (λ c. search needs)
-    (λ c κs. search needs)
-    (λ c. declined (by-size (c .before .before .before .before .before .before .before .before .args .arguments) (c .before .before .before .before .before .first .given .1) (c .before .before .before .size .ensures) ∙ rw (c .before .selected .given .1)))
-    (λ c. search needs)
-    (λ c. rw (by-size (c .before .before .before .before .before .before .before .before .before .before .before .before .args .arguments) (c .before .before .before .before .before .before .before .before .before .first .given .1) (c .before .before .before .before .before .before .before .size .ensures), c .before .before .before .before .before .selected2 .given .1) (c .before .before .write-list .ensures)))
+    (tie.spec (λ c. search needs) (λ c. search needs) (λ c. search needs) returns (λ c. search needs) returns-2
+    (λ c κs. search needs) (λ c. search needs) (λ c. search needs) (λ c κs. search needs) returns-3 (λ c. search needs)
+    returns-4)

@@ -3,10 +3,8 @@ use borrow.Author.Needs.{needs}
 use Rattle.text.proofs.format.Statement.{statement}
 use Rattle.text.proofs.format.Tie as tie
 
+returns : tie.Need-returns
+returns c = c .before .before .write-list .ensures
+
 pub format-spec : {M : Type 1} → statement M
-format-spec =
-    tie.close
-    (tie.spec
-    (λ c κs. search needs)
-    (λ c. search needs)
-    (λ c. c .before .before .write-list .ensures))
+format-spec = tie.close (tie.spec (λ c κs. search needs) (λ c. search needs) returns)

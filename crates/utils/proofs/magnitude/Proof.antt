@@ -1,5 +1,5 @@
 -- `utils::magnitude` meets its contract: below 0 it is 0 less the number, and otherwise the number itself. Assumes nothing.
-use mathlib.Core.Path.{_≡_, sym, _∙_, ap}
+use mathlib.Core.Path.{ap}
 use native.Mathlib.Omega.{arith}
 use lib.IntN.{natAbs}
 use mir.Syntax.{w32}
@@ -32,9 +32,10 @@ cast-result-2 c =
     rw (kept _ w (c .if1 .left)) (tt, record { fits = small _ w })
 
 returns-2 : tie.Need-returns-2
-returns-2 c = rw (kept _ (widened w32 (c .before .args .value) (c .before .fits .value) tt) (c .if1 .left)) (ap natAbs (toZ-ofZ w32 (c .before .args .value) (c .before .fits .value)))
+returns-2 c =
+    let start = c .before in
+    rw (kept _ (widened w32 (start .args .value) (start .fits .value) tt) (c .if1 .left))
+    (ap natAbs (toZ-ofZ w32 (start .args .value) (start .fits .value)))
 
 pub magnitude-spec : {M : Type 1} → statement M
-magnitude-spec =
-    tie.close
-    (tie.spec cast-wide sub-result cast-result returns cast-result-2 returns-2)
+magnitude-spec = tie.close (tie.spec cast-wide sub-result cast-result returns cast-result-2 returns-2)

@@ -4,16 +4,11 @@ use borrow.Author.Needs.{needs}
 use Rattle.utils.proofs.word_to_bytes.Statement.{statement}
 use Rattle.utils.proofs.word_to_bytes.Tie as tie
 
+returns : tie.Need-returns
+returns c = to-eight (c .args .word)
+
 pub word-to-bytes-spec : {M : Type 1} → statement M
 word-to-bytes-spec =
     tie.close
-    (tie.spec
-    (λ c. search needs)
-    (λ c. search needs)
-    (λ c. search needs)
-    (λ c. search needs)
-    (λ c. search needs)
-    (λ c. search needs)
-    (λ c. search needs)
-    (λ c. search needs)
-    (λ c. to-eight (c .args .word)))
+    (tie.spec (λ c. search needs) (λ c. search needs) (λ c. search needs) (λ c. search needs) (λ c. search needs)
+    (λ c. search needs) (λ c. search needs) (λ c. search needs) returns)

@@ -5,17 +5,14 @@ use borrow.Author.Needs.{needs}
 use Rattle.examples.proofs.texts.print.Statement.{statement}
 use Rattle.examples.proofs.texts.print.Tie as tie
 
+slice-aggregate-write-all : tie.Need-slice-aggregate-write-all
+slice-aggregate-write-all c =
+    let said = c .before .before .before in
+    let start = said .before .before .before in
+    sym (length-take-le (said .said .given .0 .0) (start .args .out .now) (c .before .if1 .taken))
+
 pub print-spec : {M : Type 1} → statement M
 print-spec =
     tie.close
-    (tie.spec
-    (λ c. search needs)
-    (λ c. search needs)
-    (λ c. search needs)
-    (λ c κs. search needs)
-    (λ c. search needs)
-    (λ c. sym (length-take-le (c .before .before .before .said .given .0 .0) (c .before .before .before .before .before .before .args .out .now) (c .before .if1 .taken)))
-    (λ c κs. search needs)
-    (λ c. search needs)
-    (λ c κs. search needs)
-    (λ c. search needs))
+    (tie.spec (λ c. search needs) (λ c. search needs) (λ c. search needs) (λ c κs. search needs) (λ c. search needs)
+    slice-aggregate-write-all (λ c κs. search needs) (λ c. search needs) (λ c κs. search needs) (λ c. search needs))

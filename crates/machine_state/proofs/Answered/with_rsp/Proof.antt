@@ -4,14 +4,13 @@ use borrow.Author.Needs.{needs}
 use Rattle.machine_state.proofs.Answered.with_rsp.Statement.{statement}
 use Rattle.machine_state.proofs.Answered.with_rsp.Tie as tie
 
-enum-told : tie.Need-enum-told
-enum-told c = search needs
+returns : tie.Need-returns
+returns c = rw (c .enum-told .given .1)
+
+returns-2 : tie.Need-returns-2
+returns-2 c =
+    let start = c .before .before in
+    rw (not-refused (start .args .self .answer) (c .before .match .keys2))
 
 pub with-rsp-spec : {M : Type 1} → statement M
-with-rsp-spec =
-    tie.close
-    (tie.spec
-    enum-told
-    (λ c. rw (c .enum-told .given .1))
-    (λ c. search needs)
-    (λ c. rw (not-refused (c .before .before .args .self .answer) (c .before .match .keys2))))
+with-rsp-spec = tie.close (tie.spec (λ c. search needs) returns (λ c. search needs) returns-2)

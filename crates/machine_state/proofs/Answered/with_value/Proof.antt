@@ -4,13 +4,13 @@ use borrow.Author.Needs.{needs}
 use Rattle.machine_state.proofs.Answered.with_value.Statement.{statement}
 use Rattle.machine_state.proofs.Answered.with_value.Tie as tie
 
-enum-told : tie.Need-enum-told
-enum-told c = search needs
+returns : tie.Need-returns
+returns c = rw (c .enum-told .given .1)
+
+returns-2 : tie.Need-returns-2
+returns-2 c =
+    let start = c .before .before in
+    rw (not-refused (start .args .self .answer) (c .before .match .keys2))
 
 pub with-value-spec : {M : Type 1} → statement M
-with-value-spec =
-    tie.close
-    (tie.spec
-    enum-told
-    (λ c. rw (c .enum-told .given .1))
-    (λ c. rw (not-refused (c .before .before .args .self .answer) (c .before .match .keys2))))
+with-value-spec = tie.close (tie.spec (λ c. search needs) returns returns-2)

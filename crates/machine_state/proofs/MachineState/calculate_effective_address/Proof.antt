@@ -1,4 +1,5 @@
--- `machine_state::calculate_effective_address` meets its contract: each case of the operand's parts is one of the definition's, and a sum that is
+-- `machine_state::calculate_effective_address` meets its contract: each case of the operand's parts is one of the
+-- definition's, and a sum that is
 -- cut at each step is the sum that is cut once. Assumes nothing.
 use mathlib.Core.List.{[], _∷_}
 use mathlib.Core.Logic.{⊎-elim}
@@ -28,7 +29,8 @@ plain e f g = omega arith
 cut-once : (x w q : ℕ) → ((x + w) % 2 ^ 64 + q % 2 ^ 64) % 2 ^ 64 ≡ (x + q + w) % 2 ^ 64
 cut-once x w q = omega arith
 
-scaled : {r a b d x w p y v : ℕ} (n : ℕ) → r ≡ (a + p) % 2 ^ 64 → a ≡ (x + w) % 2 ^ 64 → x ≡ b → w ≡ d → p ≡ y * n % 2 ^ 64 → y ≡ v → r ≡ (b + v * n + d) % 2 ^ 64
+scaled : {r a b d x w p y v : ℕ} (n : ℕ) → r ≡ (a + p) % 2 ^ 64 → a ≡ (x + w) % 2 ^ 64 → x ≡ b → w ≡ d
+    → p ≡ y * n % 2 ^ 64 → y ≡ v → r ≡ (b + v * n + d) % 2 ^ 64
 scaled {b = b} {d = d} {v = v} n e f g h p s = e ∙ rw (f, p, g, h, s) (cut-once b d (v * n))
 
 not-address : (m : MachineState) (a : InstructionArgument) → OneOf (0 ∷ 1 ∷ []) (tagOf the-type a) → refuses 1 ≡ addressOf m a
@@ -37,28 +39,59 @@ not-address m (arg.Immediate v) h = refl
 not-address m (arg.Register r) h = refl
 not-address m (arg.EffectiveAddress b i s d) h = absurd (⊎-elim (λ e. omega arith) (λ e. omega arith) h)
 
-enum-told : tie.Need-enum-told
-enum-told c = search needs
+returns : tie.Need-returns
+returns c = not-address (c .before .args .self) (c .before .args .arg) (c .match .keys2)
+
+cast-word-of : tie.Need-cast-word-of
+cast-word-of c =
+    widened w32 (c .before .arg .given .0 .1 .1 .1 .0) (record { sfits = c .known-told .given .1 .1 .1 .0 .1 }) tt
+
+returns-2 : tie.Need-returns-2
+unfolding addressOf
+returns-2 c =
+    let wrapping-add-u64 = c .before .before in
+    let base-value = wrapping-add-u64 .before in
+    let word-of = base-value .before in
+    let known-told = word-of .before in
+    let arg = known-told .before in
+    rw (arg .arg .given .1, c .enum-told .given .1)
+    (ap (λ a. gives (a ∷ []))
+    (plain (wrapping-add-u64 .wrapping-add-u64 .ensures) (base-value .base-value .ensures)
+    (word-of .word-of .ensures
+    ∙ ap (ofZ w64)
+    (through w32 (arg .arg .given .0 .1 .1 .1 .0) (record { sfits = known-told .known-told .given .1 .1 .1 .0 .1 })
+    tt))))
+
+returns-3 : tie.Need-returns-3
+unfolding addressOf
+returns-3 c =
+    let index = c .before .before .before in
+    let arg = index .before .before .before .before .before .before in
+    rw (arg .arg .given .1, index .index .given .1, c .enum-told2 .given .1)
+
+returns-4 : tie.Need-returns-4
+unfolding addressOf
+returns-4 c =
+    let get-register-value = c .before .before in
+    let scale = get-register-value .before .before in
+    let index = scale .before .before .before in
+    let wrapping-add-u64 = index .before .before in
+    let base-value = wrapping-add-u64 .before in
+    let word-of = base-value .before in
+    let known-told = word-of .before in
+    let arg = known-told .before in
+    rw (arg .arg .given .1, index .index .given .1, scale .scale .given .1)
+    (ap (λ a. gives (a ∷ []))
+    (scaled (scale .scale .given .0 .0) (c .wrapping-add-u642 .ensures) (wrapping-add-u64 .wrapping-add-u64 .ensures)
+    (base-value .base-value .ensures)
+    (word-of .word-of .ensures
+    ∙ ap (ofZ w64)
+    (through w32 (arg .arg .given .0 .1 .1 .1 .0) (record { sfits = known-told .known-told .given .1 .1 .1 .0 .1 }) tt))
+    (c .before .wrapping-mul .ensures) (get-register-value .get-register-value .ensures)))
 
 pub calculate-effective-address-spec : {M : Type 1} → statement M
-unfolding addressOf
 calculate-effective-address-spec =
     tie.close
-    (tie.spec
-    (λ c. search needs)
-    (λ c. not-address (c .before .args .self) (c .before .args .arg) (c .match .keys2))
-    (λ c. widened w32 (c .before .arg .given .0 .1 .1 .1 .0) (record { sfits = c .known-told .given .1 .1 .1 .0 .1 }) tt)
-    (λ c κs. search needs)
-    (λ c κs. search needs)
-    (λ c κs. search needs)
-    (λ c. search needs)
-    enum-told
-    (λ c. rw (c .before .before .before .before .before .before .arg .given .1, c .enum-told .given .1) (ap (λ a. gives (a ∷ [])) (plain (c .before .before .wrapping-add-u64 .ensures) (c .before .before .before .base-value .ensures) (c .before .before .before .before .word-of .ensures ∙ ap (ofZ w64) (through w32 (c .before .before .before .before .before .before .arg .given .0 .1 .1 .1 .0) (record { sfits = c .before .before .before .before .before .known-told .given .1 .1 .1 .0 .1 }) tt)))))
-    (λ c. search needs)
-    (λ c. search needs)
-    (λ c. rw (c .before .before .before .before .before .before .before .before .before .arg .given .1, c .before .before .before .index .given .1, c .enum-told2 .given .1))
-    (λ c κs. search needs)
-    (λ c. search needs)
-    (λ c κs. search needs)
-    (λ c κs. search needs)
-    (λ c. rw (c .before .before .before .before .before .before .before .before .before .before .before .before .before .arg .given .1, c .before .before .before .before .before .before .before .index .given .1, c .before .before .before .before .scale .given .1) (ap (λ a. gives (a ∷ [])) (scaled (c .before .before .before .before .scale .given .0 .0) (c .wrapping-add-u642 .ensures) (c .before .before .before .before .before .before .before .before .before .wrapping-add-u64 .ensures) (c .before .before .before .before .before .before .before .before .before .before .base-value .ensures) (c .before .before .before .before .before .before .before .before .before .before .before .word-of .ensures ∙ ap (ofZ w64) (through w32 (c .before .before .before .before .before .before .before .before .before .before .before .before .before .arg .given .0 .1 .1 .1 .0) (record { sfits = c .before .before .before .before .before .before .before .before .before .before .before .before .known-told .given .1 .1 .1 .0 .1 }) tt)) (c .before .wrapping-mul .ensures) (c .before .before .get-register-value .ensures)))))
+    (tie.spec (λ c. search needs) returns cast-word-of (λ c κs. search needs) (λ c κs. search needs)
+    (λ c κs. search needs) (λ c. search needs) (λ c. search needs) returns-2 (λ c. search needs) (λ c. search needs)
+    returns-3 (λ c κs. search needs) (λ c. search needs) (λ c κs. search needs) (λ c κs. search needs) returns-4)

@@ -1,4 +1,5 @@
--- `machine_state::MachineState::set_register_value` meets its contract: the parent takes what the part writes, and parents from 17 on give the event. Assumes nothing.
+-- `machine_state::MachineState::set_register_value` meets its contract: the parent takes what the part writes, and
+-- parents from 17 on give the event. Assumes nothing.
 use Rattle.machine_state.specs.Machine.{changed, writeReg, eventOf}
 use Rattle.instruction_set.specs.Registers.{parentOf}
 use borrow.Author.Tests.{lt-ltb, le-ltb}
@@ -9,17 +10,42 @@ use borrow.Author.Needs.{needs}
 use Rattle.machine_state.proofs.MachineState.set_register_value.Statement.{statement}
 use Rattle.machine_state.proofs.MachineState.set_register_value.Tie as tie
 
-pub set-register-value-spec : {M : Type 1} → statement M
+mul-x : tie.Need-mul-x
+mul-x c = omega (arith, parent-below (c .before .args .register))
+
+element-copy-out-x : tie.Need-element-copy-out-x
+element-copy-out-x c = omega (arith, parent-below (c .before .args .register))
+
+mul-self : tie.Need-mul-self
+mul-self c =
+    let start = c .before .before .before .before in
+    omega (arith, parent-below (start .args .register))
+
+element-write-self : tie.Need-element-write-self
+element-write-self c =
+    let start = c .before .before .before .before in
+    omega (arith, parent-below (start .args .register))
+
+returns : tie.Need-returns
 unfolding writeReg eventOf
+returns c =
+    let get-part = c .before .before in
+    let get-parent = get-part .before .before in
+    let start = get-parent .before in
+    ap₂ changed (rw (c .before .write-part .ensures, get-part .get-part .ensures, get-parent .get-parent .ensures))
+    (simp (lt-ltb (parentOf (start .args .register)) 17 (omega arith)))
+
+returns-2 : tie.Need-returns-2
+unfolding writeReg eventOf
+returns-2 c =
+    let get-part = c .before .before in
+    let get-parent = get-part .before .before in
+    let start = get-parent .before in
+    ap₂ changed (rw (c .before .write-part .ensures, get-part .get-part .ensures, get-parent .get-parent .ensures))
+    (simp (le-ltb (parentOf (start .args .register)) 17 (omega arith)))
+
+pub set-register-value-spec : {M : Type 1} → statement M
 set-register-value-spec =
     tie.close
-    (tie.spec
-    (λ c κs. search needs)
-    (λ c. omega (arith, parent-below (c .before .args .register)))
-    (λ c. omega (arith, parent-below (c .before .args .register)))
-    (λ c κs. search needs)
-    (λ c κs. search needs)
-    (λ c. omega (arith, parent-below (c .before .before .before .before .args .register)))
-    (λ c. omega (arith, parent-below (c .before .before .before .before .args .register)))
-    (λ c. ap₂ changed (rw (c .before .write-part .ensures, c .before .before .get-part .ensures, c .before .before .before .before .get-parent .ensures)) (simp (lt-ltb (parentOf (c .before .before .before .before .before .args .register)) 17 (omega arith))))
-    (λ c. ap₂ changed (rw (c .before .write-part .ensures, c .before .before .get-part .ensures, c .before .before .before .before .get-parent .ensures)) (simp (le-ltb (parentOf (c .before .before .before .before .before .args .register)) 17 (omega arith)))))
+    (tie.spec (λ c κs. search needs) mul-x element-copy-out-x (λ c κs. search needs) (λ c κs. search needs) mul-self
+    element-write-self returns returns-2)

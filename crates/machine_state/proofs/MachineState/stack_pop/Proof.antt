@@ -9,14 +9,16 @@ use borrow.Author.Needs.{needs}
 use Rattle.machine_state.proofs.MachineState.stack_pop.Statement.{statement}
 use Rattle.machine_state.proofs.MachineState.stack_pop.Tie as tie
 
-pub stack-pop-spec : {M : Type 1} → statement M
+returns : tie.Need-returns
 unfolding popped
+returns c =
+    let load = c .before .before in
+    let start = load .before .before .before .before in
+    let x = (getD (start .args .t1 .regs) 4 0 + 8) % 2 ^ 64 in
+    rw (c .with-rsp .ensures, c .before .wrapping-add-u64 .ensures)
+    (rsp-after (load .load .result) _ _ [] x ∙ ap (λ r. moved r x) (load .load .ensures))
+
+pub stack-pop-spec : {M : Type 1} → statement M
 stack-pop-spec =
     tie.close
-    (tie.spec
-    (λ c. search needs)
-    (λ c κs. search needs)
-    (λ c κs. search needs)
-    (λ c κs. search needs)
-    (λ c. let x = (getD (c .before .before .before .before .before .before .args .t1 .regs) 4 0 + 8) % 2 ^ 64 in
-    rw (c .with-rsp .ensures, c .before .wrapping-add-u64 .ensures) (rsp-after (c .before .before .load .result) _ _ [] x ∙ ap (λ r. moved r x) (c .before .before .load .ensures))))
+    (tie.spec (λ c. search needs) (λ c κs. search needs) (λ c κs. search needs) (λ c κs. search needs) returns)

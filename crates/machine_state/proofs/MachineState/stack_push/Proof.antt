@@ -1,4 +1,5 @@
--- `machine_state::MachineState::stack_push` meets its contract: the write's contract, then rsp moved (Steps, `rsp-after`); the place is rsp less the length. Assumes nothing.
+-- `machine_state::MachineState::stack_push` meets its contract: the write's contract, then rsp moved (Steps,
+-- `rsp-after`); the place is rsp less the length. Assumes nothing.
 use Rattle.store.specs.Store.{storeOf}
 use native.Mathlib.Omega.{arith}
 use Rattle.machine_state.specs.Memory.{moved, writeMemory, pushed}
@@ -9,21 +10,25 @@ use borrow.Author.Needs.{needs}
 use Rattle.machine_state.proofs.MachineState.stack_push.Statement.{statement}
 use Rattle.machine_state.proofs.MachineState.stack_push.Tie as tie
 
-pub stack-push-spec : {M : Type 1} → statement M
+returns : tie.Need-returns
 unfolding pushed
+returns c =
+    let mem-write = c .before .before .before .before .before in
+    let wrapping-sub-u64 = mem-write .before .before .before in
+    let start = wrapping-sub-u64 .before .before .before .before .before in
+    let m = start .args .t1 in
+    let s = storeOf (start .args .dir .now) (start .args .bytes .now) (start .args .used) in
+    let l = start .args .«data» .now in
+    let to = wrapping-sub-u64 .wrapping-sub-u64 .result in
+    let k : to < 2 ^ 64 = omega arith in
+    let e = below-is to _ _ k (start .good .1 .0 .0) (wrapping-sub-u64 .wrapping-sub-u64 .ensures) in
+    rw (c .with-rsp .ensures)
+    (rsp-after (mem-write .mem-write .result) _ _ l to
+    ∙ ap (λ r. moved r to) (mem-write .mem-write .ensures)
+    ∙ ap (λ x. moved (writeMemory m s x l) x) e)
+
+pub stack-push-spec : {M : Type 1} → statement M
 stack-push-spec =
     tie.close
-    (tie.spec
-    (λ c. search needs)
-    (λ c κs. search needs)
-    (λ c κs. search needs)
-    (λ c κs. search needs)
-    (λ c. search needs)
-    (λ c. search needs)
-    (λ c. let m = c .before .before .before .before .before .before .before .before .before .before .before .before .before .args .t1 in
-    let s = storeOf (c .before .before .before .before .before .before .before .before .before .before .before .before .before .args .dir .now) (c .before .before .before .before .before .before .before .before .before .before .before .before .before .args .bytes .now) (c .before .before .before .before .before .before .before .before .before .before .before .before .before .args .used) in
-    let l = c .before .before .before .before .before .before .before .before .before .before .before .before .before .args .«data» .now in
-    let to = c .before .before .before .before .before .before .before .before .wrapping-sub-u64 .result in
-    let k : to < 2 ^ 64 = omega arith in
-    let e = below-is to _ _ k (c .before .before .before .before .before .before .before .before .before .before .before .before .before .good .1 .0 .0) (c .before .before .before .before .before .before .before .before .wrapping-sub-u64 .ensures) in
-    rw (c .with-rsp .ensures) (rsp-after (c .before .before .before .before .before .mem-write .result) _ _ l to ∙ ap (λ r. moved r to) (c .before .before .before .before .before .mem-write .ensures) ∙ ap (λ x. moved (writeMemory m s x l) x) e)))
+    (tie.spec (λ c. search needs) (λ c κs. search needs) (λ c κs. search needs) (λ c κs. search needs)
+    (λ c. search needs) (λ c. search needs) returns)

@@ -10,16 +10,38 @@ use borrow.Author.Needs.{needs}
 use Rattle.machine_state.proofs.MachineState.store.Statement.{statement}
 use Rattle.machine_state.proofs.MachineState.store.Tie as tie
 
+array-share-prefix-word : tie.Need-array-share-prefix-word
+array-share-prefix-word c =
+    let start = c .before .before .before .before in
+    omega (arith, bytes-within (start .args .size), c .before .size-bytes .ensures)
+
+slice-aggregate-mem-write : tie.Need-slice-aggregate-mem-write
+slice-aggregate-mem-write c =
+    let size-bytes = c .before .before in
+    let start = size-bytes .before .before .before in
+    rw (c .before .word-to-bytes .ensures)
+    (sym (length-take-le (size-bytes .size-bytes .result) (toBytes 8 (start .args .value))
+    (omega (
+      arith,
+      length-toBytes 8 (start .args .value),
+      bytes-within (start .args .size),
+      size-bytes .size-bytes .ensures,
+    ))))
+
+returns : tie.Need-returns
+returns c =
+    let mem-write = c .before .before .before .before in
+    let word-to-bytes = mem-write .before .before .before .before in
+    let size-bytes = word-to-bytes .before in
+    let start = size-bytes .before .before .before in
+    let h = bytes-within (start .args .size) in
+    store-left (start .args .self) _ (start .args .address) (size-bytes .size-bytes .result) (start .args .value)
+    (start .args .size) (mem-write .mem-write .result) _ _ (size-bytes .size-bytes .ensures)
+    (omega (arith, h, size-bytes .size-bytes .ensures))
+    (rw (word-to-bytes .word-to-bytes .ensures) at (mem-write .mem-write .ensures))
+
 pub store-spec : {M : Type 1} → statement M
 store-spec =
     tie.close
-    (tie.spec
-    (λ c κs. search needs)
-    (λ c κs. search needs)
-    (λ c. omega (arith, bytes-within (c .before .before .before .before .args .size), c .before .size-bytes .ensures))
-    (λ c. rw (c .before .word-to-bytes .ensures) (sym (length-take-le (c .before .before .size-bytes .result) (toBytes 8 (c .before .before .before .before .before .args .value)) (omega (arith, length-toBytes 8 (c .before .before .before .before .before .args .value), bytes-within (c .before .before .before .before .before .args .size), c .before .before .size-bytes .ensures)))))
-    (λ c κs. search needs)
-    (λ c. search needs)
-    (λ c. search needs)
-    (λ c. let h = bytes-within (c .before .before .before .before .before .before .before .before .before .before .before .before .args .size) in
-    store-left (c .before .before .before .before .before .before .before .before .before .before .before .before .args .self) _ (c .before .before .before .before .before .before .before .before .before .before .before .before .args .address) (c .before .before .before .before .before .before .before .before .before .size-bytes .result) (c .before .before .before .before .before .before .before .before .before .before .before .before .args .value) (c .before .before .before .before .before .before .before .before .before .before .before .before .args .size) (c .before .before .before .before .mem-write .result) _ _ (c .before .before .before .before .before .before .before .before .before .size-bytes .ensures) (omega (arith, h, c .before .before .before .before .before .before .before .before .before .size-bytes .ensures)) (rw (c .before .before .before .before .before .before .before .before .word-to-bytes .ensures) at (c .before .before .before .before .mem-write .ensures))))
+    (tie.spec (λ c κs. search needs) (λ c κs. search needs) array-share-prefix-word slice-aggregate-mem-write
+    (λ c κs. search needs) (λ c. search needs) (λ c. search needs) returns)

@@ -12,31 +12,70 @@ use Rattle.mmu.proofs.run.mem_read_phys.Statement.{statement}
 use Rattle.mmu.proofs.run.mem_read_phys.Tie as tie
 
 abbrev Inv-loop : tie.InvT-loop
-Inv-loop p out₀ dir bytes used page₀ off₀ done₀ out page off done = Reached p (length out₀) page off done × (length out ≡ length out₀) × (out ≡ filled out₀ 0 (bytesFrom (storeOf dir bytes used) p) done)
+Inv-loop p out₀ dir bytes used page₀ off₀ done₀ out page off done =
+    Reached p (length out₀) page off done × (length out ≡ length out₀)
+    × (out ≡ filled out₀ 0 (bytesFrom (storeOf dir bytes used) p) done)
 
 abbrev μ-loop : tie.MeasureT-loop
 μ-loop p out₀ dir bytes used page₀ off₀ done₀ out page off done = length out₀ - done
 
-pub mem-read-phys-spec : {M : Type 1} → statement M
+loop-holds : tie.Need-loop-holds Inv-loop μ-loop
 unfolding filled
+loop-holds c = (reached-first _ _, refl, refl)
+
+part-length-requires : tie.Need-part-length-requires Inv-loop μ-loop
+part-length-requires c κs = (c .before .loop .inv .0 .inside, omega arith)
+
+read-part-requires : tie.Need-read-part-requires Inv-loop μ-loop
+read-part-requires c κs =
+    let loop-test = c .before .before in
+    let start = loop-test .before .before .before .before .before in (
+      start .pre .0,
+      c .before .part-length .ensures .inside,
+      omega (arith, c .before .part-length .ensures .within, loop-test .loop-test .taken),
+    )
+
+add-page : tie.Need-add-page Inv-loop μ-loop
+add-page c =
+    let loop-test = c .before .before .before .before .before in
+    let loop = loop-test .before in
+    omega (arith, loop .loop .inv .0 .place (rw (loop .loop .inv .1) at (loop-test .loop-test .taken)))
+
+add-done : tie.Need-add-done Inv-loop μ-loop
+add-done c =
+    let part-length = c .before .before .before .before in
+    omega (arith, part-length .part-length .ensures .within)
+
+loop-less : tie.Need-loop-less Inv-loop μ-loop
+loop-less c =
+    let part-length = c .before .before .before .before in
+    omega (arith, part-length .part-length .ensures .within, part-length .part-length .ensures .some)
+
+loop-again : tie.Need-loop-again Inv-loop μ-loop
+loop-again c =
+    let read-part = c .before .before in
+    let part-length = read-part .before .before in
+    let loop-test = part-length .before in
+    let loop = loop-test .before in
+    let lt = rw (loop .loop .inv .1) at (loop-test .loop-test .taken) in
+    let part = rw (loop .loop .inv .1) at (part-length .part-length .ensures) in (
+      reached-next _ _ _ _ _ _ (loop .loop .inv .0) lt part,
+      read-part .read-part .kept .1 .1 .0 ∙ loop .loop .inv .1,
+      read-step _ _ _ _ _ _ _ _ _ (loop .loop .inv .0 .place lt) (loop .loop .inv .2) (read-part .read-part .ensures),
+    )
+
+same-length : tie.Need-same-length Inv-loop μ-loop
+same-length c = c .before .loop .inv .1
+
+returns : tie.Need-returns Inv-loop μ-loop
+returns c =
+    let loop = c .before in
+    let start = loop .before .before .before .before in
+    let e : loop .loop .done ≡ length (start .args .out .now) = omega (arith, loop .loop .inv .0 .within) in
+    read-end _ _ _ _ _ e (loop .loop .inv .2)
+
+pub mem-read-phys-spec : {M : Type 1} → statement M
 mem-read-phys-spec =
     tie.close
-    (tie.spec
-    Inv-loop
-    μ-loop
-    (λ c. (reached-first _ _, refl, refl))
-    (λ c. search needs)
-    (λ c κs. (c .before .loop .inv .0 .inside, omega arith))
-    (λ c κs. (c .before .before .before .before .before .before .before .pre .0, c .before .part-length .ensures .inside, omega (arith, c .before .part-length .ensures .within, c .before .before .loop-test .taken)))
-    (λ c. omega (arith, c .before .before .before .before .before .before .loop .inv .0 .place (rw (c .before .before .before .before .before .before .loop .inv .1) at (c .before .before .before .before .before .loop-test .taken))))
-    (λ c. omega (arith, c .before .before .before .before .part-length .ensures .within))
-    (λ c. omega (arith, c .before .before .before .before .part-length .ensures .within, c .before .before .before .before .part-length .ensures .some))
-    (λ c. let lt = rw (c .before .before .before .before .before .before .loop .inv .1) at (c .before .before .before .before .before .loop-test .taken) in
-    let part = rw (c .before .before .before .before .before .before .loop .inv .1) at (c .before .before .before .before .part-length .ensures) in (
-      reached-next _ _ _ _ _ _ (c .before .before .before .before .before .before .loop .inv .0) lt part,
-      c .before .before .read-part .kept .1 .1 .0 ∙ c .before .before .before .before .before .before .loop .inv .1,
-      read-step _ _ _ _ _ _ _ _ _ (c .before .before .before .before .before .before .loop .inv .0 .place lt) (c .before .before .before .before .before .before .loop .inv .2) (c .before .before .read-part .ensures),
-    ))
-    (λ c. c .before .loop .inv .1)
-    (λ c. let e : c .before .loop .done ≡ length (c .before .before .before .before .before .args .out .now) = omega (arith, c .before .loop .inv .0 .within) in
-    read-end _ _ _ _ _ e (c .before .loop .inv .2)))
+    (tie.spec Inv-loop μ-loop loop-holds (λ c. search needs) part-length-requires read-part-requires add-page add-done
+    loop-less loop-again same-length returns)

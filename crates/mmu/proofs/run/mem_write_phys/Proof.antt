@@ -1,4 +1,5 @@
--- `mem_write_phys` gives `written`: after each turn the store is that of the first `done` bytes (Turns.write-step), and there is room for the next part (Turns.ready-part).
+-- `mem_write_phys` gives `written`: after each turn the store is that of the first `done` bytes (Turns.write-step), and
+-- there is room for the next part (Turns.ready-part).
 use Rattle.mmu.proofs.Turns.{reached-first, reached-next, ready-part, write-step}
 use Rattle.mmu.specs.Parts.{Reached}
 use Rattle.mmu.specs.Calls.{byteOf}
@@ -11,32 +12,82 @@ use Rattle.mmu.proofs.run.mem_write_phys.Statement.{statement}
 use Rattle.mmu.proofs.run.mem_write_phys.Tie as tie
 
 abbrev Inv-loop : tie.InvT-loop
-Inv-loop p «data» dir₀ bytes₀ used page₀ off₀ done₀ count₀ dir bytes page off done count = Reached p (length «data») page off done × (length dir ≡ length dir₀) × (length bytes ≡ length bytes₀) × (storeOf dir bytes count ≡ written (storeOf dir₀ bytes₀ used) p (byteOf «data») done)
+Inv-loop p «data» dir₀ bytes₀ used page₀ off₀ done₀ count₀ dir bytes page off done count =
+    Reached p (length «data») page off done × (length dir ≡ length dir₀) × (length bytes ≡ length bytes₀)
+    × (storeOf dir bytes count ≡ written (storeOf dir₀ bytes₀ used) p (byteOf «data») done)
 
 abbrev μ-loop : tie.MeasureT-loop
 μ-loop p «data» dir₀ bytes₀ used page₀ off₀ done₀ count₀ dir bytes page off done count = length «data» - done
 
-pub mem-write-phys-spec : {M : Type 1} → statement M
+loop-holds : tie.Need-loop-holds Inv-loop μ-loop
 unfolding written
+loop-holds c = (reached-first _ _, refl, refl, refl)
+
+sub-part-length : tie.Need-sub-part-length Inv-loop μ-loop
+sub-part-length c = omega (arith, c .loop-test .taken)
+
+part-length-requires : tie.Need-part-length-requires Inv-loop μ-loop
+part-length-requires c κs = (c .before .loop .inv .0 .inside, omega arith)
+
+write-part-requires : tie.Need-write-part-requires Inv-loop μ-loop
+write-part-requires c κs =
+    let part-length = c .before .before in
+    let loop-test = part-length .before in
+    let loop = loop-test .before in
+    let start = loop .before .before .before .before in
+    rw (loop .loop .inv .3)
+    (ready-part _ _ _ _ _ _ _ _ (start .pre) (loop .loop .inv .0) (loop-test .loop-test .taken)
+    (part-length .part-length .ensures))
+
+add-page : tie.Need-add-page Inv-loop μ-loop
+add-page c =
+    let loop-test = c .before .before .before .before .before .before .before .before in
+    let loop = loop-test .before in
+    omega (arith, loop .loop .inv .0 .place (loop-test .loop-test .taken))
+
+add-done : tie.Need-add-done Inv-loop μ-loop
+add-done c =
+    let part-length = c .before .before .before .before .before .before .before in
+    omega (arith, part-length .part-length .ensures .within)
+
+loop-less : tie.Need-loop-less Inv-loop μ-loop
+loop-less c =
+    let part-length = c .before .before .before .before .before .before .before in
+    omega (arith, part-length .part-length .ensures .within, part-length .part-length .ensures .some)
+
+loop-again : tie.Need-loop-again Inv-loop μ-loop
+loop-again c =
+    let write-part = c .before .before .before .before in
+    let part-length = write-part .before .before .before in
+    let loop-test = part-length .before in
+    let loop = loop-test .before in
+    let start = loop .before .before .before .before in (
+      reached-next _ _ _ _ _ _ (loop .loop .inv .0) (loop-test .loop-test .taken) (part-length .part-length .ensures),
+      write-part .write-part .kept .1 .1 .1 .1 .1 .0 ∙ loop .loop .inv .1,
+      write-part .write-part .kept .1 .1 .1 .1 .1 .1 .0 ∙ loop .loop .inv .2,
+      write-step _ _ _ _ (start .args .«data» .now) _ _ _ (part-length .part-length .result)
+          (loop .loop .inv .0 .place (loop-test .loop-test .taken)) (loop .loop .inv .3)
+          (write-part .write-part .ensures),
+    )
+
+same-length : tie.Need-same-length Inv-loop μ-loop
+same-length c = c .before .loop .inv .1
+
+same-length-2 : tie.Need-same-length-2 Inv-loop μ-loop
+same-length-2 c = c .before .loop .inv .2
+
+returns : tie.Need-returns Inv-loop μ-loop
+returns c =
+    let loop = c .before in
+    let start = loop .before .before .before .before in
+    let e : loop .loop .done ≡ length (start .args .«data» .now) = omega (arith, loop .loop .inv .0 .within) in
+    loop .loop .inv .3
+    ∙ ap (λ (k : ℕ). written (storeOf (start .args .dir .now) (start .args .bytes .now) (start .args .used))
+    (start .args .p) (byteOf (start .args .«data» .now)) k)
+    e
+
+pub mem-write-phys-spec : {M : Type 1} → statement M
 mem-write-phys-spec =
     tie.close
-    (tie.spec
-    Inv-loop
-    μ-loop
-    (λ c. (reached-first _ _, refl, refl, refl))
-    (λ c. omega (arith, c .loop-test .taken))
-    (λ c κs. (c .before .loop .inv .0 .inside, omega arith))
-    (λ c κs. rw (c .before .before .before .before .loop .inv .3) (ready-part _ _ _ _ _ _ _ _ (c .before .before .before .before .before .before .before .before .pre) (c .before .before .before .before .loop .inv .0) (c .before .before .before .loop-test .taken) (c .before .before .part-length .ensures)))
-    (λ c. omega (arith, c .before .before .before .before .before .before .before .before .before .loop .inv .0 .place (c .before .before .before .before .before .before .before .before .loop-test .taken)))
-    (λ c. omega (arith, c .before .before .before .before .before .before .before .part-length .ensures .within))
-    (λ c. omega (arith, c .before .before .before .before .before .before .before .part-length .ensures .within, c .before .before .before .before .before .before .before .part-length .ensures .some))
-    (λ c. (
-      reached-next _ _ _ _ _ _ (c .before .before .before .before .before .before .before .before .before .loop .inv .0) (c .before .before .before .before .before .before .before .before .loop-test .taken) (c .before .before .before .before .before .before .before .part-length .ensures),
-      c .before .before .before .before .write-part .kept .1 .1 .1 .1 .1 .0 ∙ c .before .before .before .before .before .before .before .before .before .loop .inv .1,
-      c .before .before .before .before .write-part .kept .1 .1 .1 .1 .1 .1 .0 ∙ c .before .before .before .before .before .before .before .before .before .loop .inv .2,
-      write-step _ _ _ _ (c .before .before .before .before .before .before .before .before .before .before .before .before .before .args .«data» .now) _ _ _ (c .before .before .before .before .before .before .before .part-length .result) (c .before .before .before .before .before .before .before .before .before .loop .inv .0 .place (c .before .before .before .before .before .before .before .before .loop-test .taken)) (c .before .before .before .before .before .before .before .before .before .loop .inv .3) (c .before .before .before .before .write-part .ensures),
-    ))
-    (λ c. c .before .loop .inv .1)
-    (λ c. c .before .loop .inv .2)
-    (λ c. let e : c .before .loop .done ≡ length (c .before .before .before .before .before .args .«data» .now) = omega (arith, c .before .loop .inv .0 .within) in
-    c .before .loop .inv .3 ∙ ap (λ (k : ℕ). written (storeOf (c .before .before .before .before .before .args .dir .now) (c .before .before .before .before .before .args .bytes .now) (c .before .before .before .before .before .args .used)) (c .before .before .before .before .before .args .p) (byteOf (c .before .before .before .before .before .args .«data» .now)) k) e))
+    (tie.spec Inv-loop μ-loop loop-holds sub-part-length part-length-requires write-part-requires add-page add-done
+    loop-less loop-again same-length same-length-2 returns)

@@ -7,21 +7,46 @@ use borrow.Author.Needs.{needs}
 use Rattle.mmu.proofs.run.read_part.Statement.{statement}
 use Rattle.mmu.proofs.run.read_part.Tie as tie
 
-enum-told : tie.Need-enum-told
-enum-told c = search needs
+mul-copy : tie.Need-mul-copy
+mul-copy c =
+    let found = c .before .before in
+    let find-page = found .before .before in
+    let start = find-page .before .before .before .before in
+    omega (arith, slot-held _ (start .pre .0) _ _ (sym (find-page .find-page .ensures) ∙ found .found .given .1))
+
+add-copy : tie.Need-add-copy
+add-copy c =
+    let found = c .before .before in
+    let find-page = found .before .before in
+    let start = find-page .before .before .before .before in
+    omega (arith, slot-held _ (start .pre .0) _ _ (sym (find-page .find-page .ensures) ∙ found .found .given .1))
+
+returns : tie.Need-returns
+returns c =
+    let copy = c .before .before in
+    let found = copy .before .before .before in
+    let find-page = found .before .before in
+    let start = find-page .before .before .before .before in
+    part-copied _ _ _ _ _ _ _ _ (find-page .find-page .ensures) (start .pre .1) _ (found .found .given .1)
+    (put-copied (start .args .bytes .now) _ (copy .copy .ensures)
+    (omega (
+      arith,
+      start .pre .1,
+      slot-held _ (start .pre .0) _ _ (sym (find-page .find-page .ensures) ∙ found .found .given .1),
+    ))
+    (start .pre .2))
+
+returns-2 : tie.Need-returns-2
+returns-2 c =
+    let fill = c .before .before in
+    let enum-told = fill .before .before in
+    let find-page = enum-told .before .before in
+    let start = find-page .before .before .before .before in
+    part-cleared _ _ _ _ _ _ _ _ (find-page .find-page .ensures) (start .pre .1) (enum-told .enum-told .given .1)
+    (put-was (fill .fill .ensures) (room-yes _ _ _ (start .pre .2)))
 
 pub read-part-spec : {M : Type 1} → statement M
 read-part-spec =
     tie.close
-    (tie.spec
-    (λ c κs. search needs)
-    (λ c. search needs)
-    (λ c. omega (arith, slot-held _ (c .before .before .before .before .before .before .before .before .pre .0) _ _ (sym (c .before .before .before .before .find-page .ensures) ∙ c .before .before .found .given .1)))
-    (λ c. omega (arith, slot-held _ (c .before .before .before .before .before .before .before .before .pre .0) _ _ (sym (c .before .before .before .before .find-page .ensures) ∙ c .before .before .found .given .1)))
-    (λ c κs. search needs)
-    enum-told
-    (λ c κs. search needs)
-    (λ c. search needs)
-    (λ c. part-copied _ _ _ _ _ _ _ _ (c .before .before .before .before .before .before .before .find-page .ensures) (c .before .before .before .before .before .before .before .before .before .before .before .pre .1) _ (c .before .before .before .before .before .found .given .1) (put-copied (c .before .before .before .before .before .before .before .before .before .before .before .args .bytes .now) _ (c .before .before .copy .ensures) (omega (arith, c .before .before .before .before .before .before .before .before .before .before .before .pre .1, slot-held _ (c .before .before .before .before .before .before .before .before .before .before .before .pre .0) _ _ (sym (c .before .before .before .before .before .before .before .find-page .ensures) ∙ c .before .before .before .before .before .found .given .1))) (c .before .before .before .before .before .before .before .before .before .before .before .pre .2)))
-    (λ c. search needs)
-    (λ c. part-cleared _ _ _ _ _ _ _ _ (c .before .before .before .before .before .before .find-page .ensures) (c .before .before .before .before .before .before .before .before .before .before .pre .1) (c .before .before .before .before .enum-told .given .1) (put-was (c .before .before .fill .ensures) (room-yes _ _ _ (c .before .before .before .before .before .before .before .before .before .before .pre .2)))))
+    (tie.spec (λ c κs. search needs) (λ c. search needs) mul-copy add-copy (λ c κs. search needs) (λ c. search needs)
+    (λ c κs. search needs) (λ c. search needs) returns (λ c. search needs) returns-2)

@@ -6,14 +6,17 @@ use Rattle.runs.proofs.Puts.{put-was, room-yes}
 use Rattle.mmu.proofs.run.take_slot.Statement.{statement}
 use Rattle.mmu.proofs.run.take_slot.Tie as tie
 
+returns : tie.Need-returns
+returns c =
+    let fill = c .before .before in
+    let start = fill .before .before .before .before in
+    rw (
+      add-one (start .args .used),
+      put-was (fill .fill .ensures) (room-yes _ _ _ (omega (arith, start .pre .0 .sized, start .pre .1))),
+    )
+
 pub take-slot-spec : {M : Type 1} → statement M
 take-slot-spec =
     tie.close
-    (tie.spec
-    (λ c. search needs)
-    (λ c. search needs)
-    (λ c. search needs)
-    (λ c κs. search needs)
-    (λ c. search needs)
-    (λ c. search needs)
-    (λ c. rw (add-one (c .before .before .before .before .before .before .args .used), put-was (c .before .before .fill .ensures) (room-yes _ _ _ (omega (arith, c .before .before .before .before .before .before .pre .0 .sized, c .before .before .before .before .before .before .pre .1))))))
+    (tie.spec (λ c. search needs) (λ c. search needs) (λ c. search needs) (λ c κs. search needs) (λ c. search needs)
+    (λ c. search needs) returns)

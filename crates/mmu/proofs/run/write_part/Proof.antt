@@ -11,27 +11,71 @@ use borrow.Author.Needs.{needs}
 use Rattle.mmu.proofs.run.write_part.Statement.{statement}
 use Rattle.mmu.proofs.run.write_part.Tie as tie
 
-enum-told : tie.Need-enum-told
-enum-told c = search needs
+mul-copy : tie.Need-mul-copy
+mul-copy c =
+    let found = c .before .before in
+    let find-page = found .before .before in
+    let start = find-page .before .before .before .before .before in
+    omega (arith, slot-held _ (start .pre .sound) _ _ (sym (find-page .find-page .ensures) ∙ found .found .given .1))
+
+add-copy : tie.Need-add-copy
+add-copy c =
+    let found = c .before .before in
+    let find-page = found .before .before in
+    let start = find-page .before .before .before .before .before in
+    omega (
+      arith,
+      slot-held _ (start .pre .sound) _ _ (sym (find-page .find-page .ensures) ∙ found .found .given .1),
+      start .pre .inside,
+    )
+
+take-slot-requires : tie.Need-take-slot-requires
+take-slot-requires c κs =
+    let enum-told = c .before .before in
+    let find-page = enum-told .before .before in
+    let start = find-page .before .before .before .before .before in (
+      start .pre .sound,
+      room-missing _ (start .pre .sound) _ (start .pre .room)
+          (sym (find-page .find-page .ensures) ∙ enum-told .enum-told .given .1),
+    )
+
+returns : tie.Need-returns
+returns c =
+    let copy = c .before .before in
+    let found = copy .before .before .before in
+    let find-page = found .before .before in
+    let start = find-page .before .before .before .before .before in
+    part-at _ _ _ _ _ _ (start .pre) _ (bytesOf (start .args .«data» .now) (start .args .from)) _
+    (sym (find-page .find-page .ensures) ∙ found .found .given .1)
+    (put-copied (start .args .«data» .now) _ (copy .copy .ensures) (start .pre .given)
+    (omega (
+      arith,
+      slot-held _ (start .pre .sound) _ _ (sym (find-page .find-page .ensures) ∙ found .found .given .1),
+      start .pre .inside,
+    )))
+
+returns-2 : tie.Need-returns-2
+returns-2 c =
+    let copy2 = c .before .before in
+    let take-slot = copy2 .before .before .before .before .before .before in
+    let enum-told = take-slot .before .before .before in
+    let find-page = enum-told .before .before in
+    let start = find-page .before .before .before .before .before in
+    part-new _ _ _ _ _ _ (start .pre) (bytesOf (start .args .«data» .now) (start .args .from)) (storeOf _ _ _) _
+    (sym (find-page .find-page .ensures) ∙ enum-told .enum-told .given .1) (take-slot .take-slot .ensures)
+    (put-copied (start .args .«data» .now) _ (copy2 .copy2 .ensures) (start .pre .given)
+    (omega (
+      arith,
+      room-missing _ (start .pre .sound) _ (start .pre .room)
+          (sym (find-page .find-page .ensures) ∙ enum-told .enum-told .given .1),
+      start .pre .sound .sized,
+      start .pre .inside,
+      take-slot .take-slot .kept .1 .1 .0,
+    )))
 
 pub write-part-spec : {M : Type 1} → statement M
 write-part-spec =
     tie.close
-    (tie.spec
-    (λ c κs. search needs)
-    (λ c. search needs)
-    (λ c. omega (arith, slot-held _ (c .before .before .before .before .before .before .before .before .before .pre .sound) _ _ (sym (c .before .before .before .before .find-page .ensures) ∙ c .before .before .found .given .1)))
-    (λ c. omega (arith, slot-held _ (c .before .before .before .before .before .before .before .before .before .pre .sound) _ _ (sym (c .before .before .before .before .find-page .ensures) ∙ c .before .before .found .given .1), c .before .before .before .before .before .before .before .before .before .pre .inside))
-    (λ c κs. search needs)
-    enum-told
-    (λ c κs. (c .before .before .before .before .before .before .before .before .before .pre .sound, room-missing _ (c .before .before .before .before .before .before .before .before .before .pre .sound) _ (c .before .before .before .before .before .before .before .before .before .pre .room) (sym (c .before .before .before .before .find-page .ensures) ∙ c .before .before .enum-told .given .1)))
-    (λ c. search needs)
-    (λ c. search needs)
-    (λ c κs. search needs)
-    (λ c. search needs)
-    (λ c. search needs)
-    (λ c. search needs)
-    (λ c. part-at _ _ _ _ _ _ (c .before .before .before .before .before .before .before .before .before .before .before .before .pre) _ (bytesOf (c .before .before .before .before .before .before .before .before .before .before .before .before .args .«data» .now) (c .before .before .before .before .before .before .before .before .before .before .before .before .args .from)) _ (sym (c .before .before .before .before .before .before .before .find-page .ensures) ∙ c .before .before .before .before .before .found .given .1) (put-copied (c .before .before .before .before .before .before .before .before .before .before .before .before .args .«data» .now) _ (c .before .before .copy .ensures) (c .before .before .before .before .before .before .before .before .before .before .before .before .pre .given) (omega (arith, slot-held _ (c .before .before .before .before .before .before .before .before .before .before .before .before .pre .sound) _ _ (sym (c .before .before .before .before .before .before .before .find-page .ensures) ∙ c .before .before .before .before .before .found .given .1), c .before .before .before .before .before .before .before .before .before .before .before .before .pre .inside))))
-    (λ c. search needs)
-    (λ c. search needs)
-    (λ c. part-new _ _ _ _ _ _ (c .before .before .before .before .before .before .before .before .before .before .before .before .before .before .before .before .before .before .pre) (bytesOf (c .before .before .before .before .before .before .before .before .before .before .before .before .before .before .before .before .before .before .args .«data» .now) (c .before .before .before .before .before .before .before .before .before .before .before .before .before .before .before .before .before .before .args .from)) (storeOf _ _ _) _ (sym (c .before .before .before .before .before .before .before .before .before .before .before .before .before .find-page .ensures) ∙ c .before .before .before .before .before .before .before .before .before .before .before .enum-told .given .1) (c .before .before .before .before .before .before .before .before .take-slot .ensures) (put-copied (c .before .before .before .before .before .before .before .before .before .before .before .before .before .before .before .before .before .before .args .«data» .now) _ (c .before .before .copy2 .ensures) (c .before .before .before .before .before .before .before .before .before .before .before .before .before .before .before .before .before .before .pre .given) (omega (arith, room-missing _ (c .before .before .before .before .before .before .before .before .before .before .before .before .before .before .before .before .before .before .pre .sound) _ (c .before .before .before .before .before .before .before .before .before .before .before .before .before .before .before .before .before .before .pre .room) (sym (c .before .before .before .before .before .before .before .before .before .before .before .before .before .find-page .ensures) ∙ c .before .before .before .before .before .before .before .before .before .before .before .enum-told .given .1), c .before .before .before .before .before .before .before .before .before .before .before .before .before .before .before .before .before .before .pre .sound .sized, c .before .before .before .before .before .before .before .before .before .before .before .before .before .before .before .before .before .before .pre .inside, c .before .before .before .before .before .before .before .before .take-slot .kept .1 .1 .0)))))
+    (tie.spec (λ c κs. search needs) (λ c. search needs) mul-copy add-copy (λ c κs. search needs) (λ c. search needs)
+    take-slot-requires (λ c. search needs) (λ c. search needs) (λ c κs. search needs) (λ c. search needs)
+    (λ c. search needs) (λ c. search needs) returns (λ c. search needs) (λ c. search needs) returns-2)

@@ -5,14 +5,12 @@ use borrow.Author.Needs.{needs}
 use Rattle.mmu.proofs.walk.entry_place.Statement.{statement}
 use Rattle.mmu.proofs.walk.entry_place.Tie as tie
 
-pub entry-place-spec : {M : Type 1} → statement M
+returns : tie.Need-returns
 unfolding entryPlace cut
+returns c = c .wrapping-add-u64 .ensures
+
+pub entry-place-spec : {M : Type 1} → statement M
 entry-place-spec =
     tie.close
-    (tie.spec
-    (λ c. search needs)
-    (λ c. search needs)
-    (λ c. search needs)
-    (λ c. search needs)
-    (λ c κs. search needs)
-    (λ c. c .wrapping-add-u64 .ensures))
+    (tie.spec (λ c. search needs) (λ c. search needs) (λ c. search needs) (λ c. search needs) (λ c κs. search needs)
+    returns)

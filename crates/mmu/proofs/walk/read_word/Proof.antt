@@ -6,12 +6,11 @@ use borrow.Author.Needs.{needs}
 use Rattle.mmu.proofs.walk.read_word.Statement.{statement}
 use Rattle.mmu.proofs.walk.read_word.Tie as tie
 
-pub read-word-spec : {M : Type 1} → statement M
+returns : tie.Need-returns
 unfolding wordAt
-read-word-spec =
-    tie.close
-    (tie.spec
-    (λ c. search needs)
-    (λ c κs. search needs)
-    (λ c κs. search needs)
-    (λ c. c .bytes-to-word .ensures ∙ ap fromBytes (c .before .before .mem-read-phys .ensures)))
+returns c =
+    let mem-read-phys = c .before .before in
+    c .bytes-to-word .ensures ∙ ap fromBytes (mem-read-phys .mem-read-phys .ensures)
+
+pub read-word-spec : {M : Type 1} → statement M
+read-word-spec = tie.close (tie.spec (λ c. search needs) (λ c κs. search needs) (λ c κs. search needs) returns)

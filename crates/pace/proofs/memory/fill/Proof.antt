@@ -7,7 +7,8 @@ use Rattle.pace.proofs.memory.fill.Statement.{statement}
 use Rattle.pace.proofs.memory.fill.Tie as tie
 
 abbrev Inv-loop : tie.InvT-loop
-Inv-loop start pages dir₀ bytes₀ used machine count₀ at₀ p₀ dir bytes count at p = (length dir ≡ length dir₀) × (length bytes ≡ length bytes₀)
+Inv-loop start pages dir₀ bytes₀ used machine count₀ at₀ p₀ dir bytes count at p =
+    (length dir ≡ length dir₀) × (length bytes ≡ length bytes₀)
 
 abbrev μ-loop : tie.MeasureT-loop
 μ-loop start pages dir₀ bytes₀ used machine count₀ at₀ p₀ dir bytes count at p = pages - p
@@ -15,18 +16,6 @@ abbrev μ-loop : tie.MeasureT-loop
 pub fill-spec : {M : Type 1} → statement M
 fill-spec =
     tie.close
-    (tie.spec
-    Inv-loop
-    μ-loop
-    (λ c κs. search needs)
-    (λ c. search needs)
-    (λ c κs. search needs)
-    (λ c. search needs)
-    (λ c κs. search needs)
-    (λ c κs. search needs)
-    (λ c. search needs)
-    (λ c. search needs)
-    (λ c. search needs)
-    (λ c. search needs)
-    (λ c. search needs)
-    (λ c. search needs))
+    (tie.spec Inv-loop μ-loop (λ c κs. search needs) (λ c. search needs) (λ c κs. search needs) (λ c. search needs)
+    (λ c κs. search needs) (λ c κs. search needs) (λ c. search needs) (λ c. search needs) (λ c. search needs)
+    (λ c. search needs) (λ c. search needs) (λ c. search needs))

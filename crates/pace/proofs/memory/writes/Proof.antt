@@ -7,7 +7,8 @@ use Rattle.pace.proofs.memory.writes.Statement.{statement}
 use Rattle.pace.proofs.memory.writes.Tie as tie
 
 abbrev Inv-loop : tie.InvT-loop
-Inv-loop mask turns dir₀ bytes₀ used now₀ count₀ sum₀ i₀ dir bytes now count sum i = (length dir ≡ length dir₀) × (length bytes ≡ length bytes₀)
+Inv-loop mask turns dir₀ bytes₀ used now₀ count₀ sum₀ i₀ dir bytes now count sum i =
+    (length dir ≡ length dir₀) × (length bytes ≡ length bytes₀)
 
 abbrev μ-loop : tie.MeasureT-loop
 μ-loop mask turns dir₀ bytes₀ used now₀ count₀ sum₀ i₀ dir bytes now count sum i = turns - i
@@ -15,21 +16,7 @@ abbrev μ-loop : tie.MeasureT-loop
 pub writes-spec : {M : Type 1} → statement M
 writes-spec =
     tie.close
-    (tie.spec
-    Inv-loop
-    μ-loop
-    (λ c κs. search needs)
-    (λ c. search needs)
-    (λ c κs. search needs)
-    (λ c κs. search needs)
-    (λ c. search needs)
-    (λ c κs. search needs)
-    (λ c κs. search needs)
-    (λ c. search needs)
-    (λ c. search needs)
-    (λ c. search needs)
-    (λ c κs. search needs)
-    (λ c κs. search needs)
-    (λ c. search needs)
-    (λ c. search needs)
+    (tie.spec Inv-loop μ-loop (λ c κs. search needs) (λ c. search needs) (λ c κs. search needs) (λ c κs. search needs)
+    (λ c. search needs) (λ c κs. search needs) (λ c κs. search needs) (λ c. search needs) (λ c. search needs)
+    (λ c. search needs) (λ c κs. search needs) (λ c κs. search needs) (λ c. search needs) (λ c. search needs)
     (λ c. search needs))

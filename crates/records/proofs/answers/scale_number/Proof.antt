@@ -3,12 +3,11 @@ use borrow.Author.Needs.{needs}
 use Rattle.records.proofs.answers.scale_number.Statement.{statement}
 use Rattle.records.proofs.answers.scale_number.Tie as tie
 
+returns-2 : tie.Need-returns-2
+returns-2 c = rw (c .before .scale .given .1)
+
 pub scale-number-spec : {M : Type 1} → statement M
 scale-number-spec =
-    tie.close (tie.spec
-    (λ c. search needs)
-    (λ c. search needs)
-    (λ c. search needs)
-    (λ c. search needs)
-    (λ c. search needs)
-    (λ c. rw (c .before .scale .given .1)))
+    tie.close
+    (tie.spec (λ c. search needs) (λ c. search needs) (λ c. search needs) (λ c. search needs) (λ c. search needs)
+    returns-2)

@@ -3,11 +3,13 @@ use borrow.Author.Needs.{needs}
 use Rattle.records.proofs.items.with_size.Statement.{statement}
 use Rattle.records.proofs.items.with_size.Tie as tie
 
+returns : tie.Need-returns
+returns c = rw (c .enum-told .given .1)
+
+returns-2 : tie.Need-returns-2
+returns-2 c =
+    let size = c .before .before in
+    rw (size .size .given .1) (c .explicit-size .ensures)
+
 pub with-size-spec : {M : Type 1} → statement M
-with-size-spec =
-    tie.close (tie.spec
-    (λ c. search needs)
-    (λ c. search needs)
-    (λ c κs. search needs)
-    (λ c. rw (c .enum-told .given .1))
-    (λ c. rw (c .before .before .size .given .1) (c .explicit-size .ensures)))
+with-size-spec = tie.close (tie.spec (λ c. search needs) (λ c. search needs) (λ c κs. search needs) returns returns-2)

@@ -5,29 +5,30 @@ use borrow.Author.Needs.{needs}
 use Rattle.session.proofs.access.two.Statement.{statement}
 use Rattle.session.proofs.access.two.Tie as tie
 
+returns : tie.Need-returns
+returns c =
+    let words = c .before .before in
+    let operand-words2 = words .before .before .before in
+    let operand-words = operand-words2 .before in
+    let found = operand-words .before .before in
+    let get-two-arguments = found .before .before in
+    two-given (found .found .given .0 .0) (found .found .given .0 .1 .0)
+    (rw (found .found .given .1) at (get-two-arguments .get-two-arguments .ensures))
+    (operand-words .operand-words .ensures) (operand-words2 .operand-words2 .ensures) (words .words .ensures)
+
+returns-2 : tie.Need-returns-2
+returns-2 c =
+    let found2 = c .before .before .before in
+    let get-two-arguments = found2 .before .before in
+    refused-given (found2 .found2 .given .0 .0)
+    (rw (found2 .found2 .given .1) at (get-two-arguments .get-two-arguments .ensures))
+    (c .before .arguments-refusal .ensures) (c .refused .ensures) refl
+
 pub two-spec : {M : Type 1} → statement M
 two-spec =
     tie.close
-    (tie.spec
-    (λ c κs. search needs)
-    (λ c. search needs)
-    (λ c κs. search needs)
-    (λ c κs. search needs)
-    (λ c. search needs)
-    (λ c. search needs)
-    (λ c. search needs)
-    (λ c. search needs)
-    (λ c. search needs)
-    (λ c. search needs)
-    (λ c. search needs)
-    (λ c. search needs)
-    (λ c. search needs)
-    (λ c. search needs)
-    (λ c. search needs)
-    (λ c κs. search needs)
-    (λ c. search needs)
-    (λ c κs. search needs)
-    (λ c κs. search needs)
-    (λ c. search needs)
-    (λ c. two-given (c .before .before .before .before .before .before .before .before .found .given .0 .0) (c .before .before .before .before .before .before .before .before .found .given .0 .1 .0) (rw (c .before .before .before .before .before .before .before .before .found .given .1) at (c .before .before .before .before .before .before .before .before .before .before .get-two-arguments .ensures)) (c .before .before .before .before .before .before .operand-words .ensures) (c .before .before .before .before .before .operand-words2 .ensures) (c .before .before .words .ensures))
-    (λ c. refused-given (c .before .before .before .found2 .given .0 .0) (rw (c .before .before .before .found2 .given .1) at (c .before .before .before .before .before .get-two-arguments .ensures)) (c .before .arguments-refusal .ensures) (c .refused .ensures) refl))
+    (tie.spec (λ c κs. search needs) (λ c. search needs) (λ c κs. search needs) (λ c κs. search needs)
+    (λ c. search needs) (λ c. search needs) (λ c. search needs) (λ c. search needs) (λ c. search needs)
+    (λ c. search needs) (λ c. search needs) (λ c. search needs) (λ c. search needs) (λ c. search needs)
+    (λ c. search needs) (λ c κs. search needs) (λ c. search needs) (λ c κs. search needs) (λ c κs. search needs)
+    (λ c. search needs) returns returns-2)

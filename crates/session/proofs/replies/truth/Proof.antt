@@ -4,5 +4,8 @@ use borrow.Author.Needs.{needs}
 use Rattle.session.proofs.replies.truth.Statement.{statement}
 use Rattle.session.proofs.replies.truth.Tie as tie
 
+returns : tie.Need-returns
+returns c = rw (bool-byte (c .args .truth))
+
 pub truth-spec : {M : Type 1} → statement M
-truth-spec = tie.close (tie.spec (λ c. search needs) (λ c. rw (bool-byte (c .args .truth))))
+truth-spec = tie.close (tie.spec (λ c. search needs) returns)

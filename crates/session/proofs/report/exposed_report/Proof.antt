@@ -14,33 +14,57 @@ Inv-loop header lent n calls₀ k₀ calls k = (k ≤ n) × Lists lent k calls
 abbrev μ-loop : tie.MeasureT-loop
 μ-loop header lent n calls₀ k₀ calls k = n - k
 
+returns : tie.Need-returns Inv-loop μ-loop
+returns c = none (c .none .ensures) refl
+
+returns-2 : tie.Need-returns-2 Inv-loop μ-loop
+returns-2 c = none (c .none2 .ensures) refl
+
+returns-3 : tie.Need-returns-3 Inv-loop μ-loop
+returns-3 c = none (c .none3 .ensures) refl
+
+loop-holds : tie.Need-loop-holds Inv-loop μ-loop
+loop-holds c = (omega arith, lists-none _)
+
+returns-4 : tie.Need-returns-4 Inv-loop μ-loop
+returns-4 c = none (c .none4 .ensures) refl
+
+loop-again : tie.Need-loop-again Inv-loop μ-loop
+loop-again c =
+    let decode-call = c .before .before .before in
+    let header-in = decode-call .before in
+    let loop-test = header-in .before .before in
+    let loop = loop-test .before in
+    let if1 = loop .before .before .before .before .before in
+    let m = loop .loop in (
+      omega (arith, loop-test .loop-test .taken),
+      lists-more (c .before .decoded .given .0 .0) (m .inv .1)
+          (omega (arith, loop-test .loop-test .taken, m .inv .0, if1 .if1 .left))
+          (rw (header-in .header-in .ensures)
+          at (rw (c .before .decoded .given .1) at (decode-call .decode-call .ensures))),
+    )
+
+returns-5 : tie.Need-returns-5 Inv-loop μ-loop
+returns-5 c =
+    let put-places = c .before .before .before in
+    let exposed-places = put-places .before .before .before in
+    let loop-test = exposed-places .before in
+    let loop = loop-test .before in
+    let if2 = loop .before .before .before in
+    let start = if2 .before .before .before .before .before in
+    let m = loop .loop in
+    let e : m .k ≡ (start .args .header .length) / 128 = omega (arith, loop-test .loop-test .left, m .inv .0) in
+    report (m .k) (m .calls) (start .pre) (omega (arith, e, if2 .if2 .left)) (m .inv .1)
+    (report-reply (exposed-places .exposed-places .result) (m .calls) (start .args .header .a)
+    (exposed-places .exposed-places .ensures) (c .reply .ensures))
+    (report-bytes (start .args .lent .now) (exposed-places .exposed-places .result) (m .calls) (start .args .header .a)
+    (exposed-places .exposed-places .ensures) (put-places .put-places .ensures))
+
 pub exposed-report-spec : {M : Type 1} → statement M
 exposed-report-spec =
     tie.close
-    (tie.spec
-    Inv-loop
-    μ-loop
-    (λ c κs. search needs)
-    (λ c. none (c .none .ensures) refl)
-    (λ c κs. search needs)
-    (λ c. none (c .none2 .ensures) refl)
-    (λ c κs. search needs)
-    (λ c. none (c .none3 .ensures) refl)
-    (λ c. (omega arith, lists-none _))
-    (λ c κs. search needs)
-    (λ c κs. search needs)
-    (λ c. search needs)
-    (λ c. search needs)
-    (λ c κs. search needs)
-    (λ c. search needs)
-    (λ c. none (c .none4 .ensures) refl)
-    (λ c. search needs)
-    (λ c. search needs)
-    (λ c. search needs)
-    (λ c. search needs)
-    (λ c. let m = c .before .before .before .before .before .before .before .loop in (omega (arith, c .before .before .before .before .before .before .loop-test .taken), lists-more (c .before .decoded .given .0 .0) (m .inv .1) (omega (arith, c .before .before .before .before .before .before .loop-test .taken, m .inv .0, c .before .before .before .before .before .before .before .before .before .before .before .before .if1 .left)) (rw (c .before .before .before .before .header-in .ensures) at (rw (c .before .decoded .given .1) at (c .before .before .before .decode-call .ensures)))))
-    (λ c κs. search needs)
-    (λ c κs. search needs)
-    (λ c κs. search needs)
-    (λ c. search needs)
-    (λ c. let m = c .before .before .before .before .before .before .before .before .loop in let e : m .k ≡ (c .before .before .before .before .before .before .before .before .before .before .before .before .before .before .before .before .args .header .length) / 128 = omega (arith, c .before .before .before .before .before .before .before .loop-test .left, m .inv .0) in report (m .k) (m .calls) (c .before .before .before .before .before .before .before .before .before .before .before .before .before .before .before .before .pre) (omega (arith, e, c .before .before .before .before .before .before .before .before .before .before .before .if2 .left)) (m .inv .1) (report-reply (c .before .before .before .before .before .before .exposed-places .result) (m .calls) (c .before .before .before .before .before .before .before .before .before .before .before .before .before .before .before .before .args .header .a) (c .before .before .before .before .before .before .exposed-places .ensures) (c .reply .ensures)) (report-bytes (c .before .before .before .before .before .before .before .before .before .before .before .before .before .before .before .before .args .lent .now) (c .before .before .before .before .before .before .exposed-places .result) (m .calls) (c .before .before .before .before .before .before .before .before .before .before .before .before .before .before .before .before .args .header .a) (c .before .before .before .before .before .before .exposed-places .ensures) (c .before .before .before .put-places .ensures))))
+    (tie.spec Inv-loop μ-loop (λ c κs. search needs) returns (λ c κs. search needs) returns-2 (λ c κs. search needs)
+    returns-3 loop-holds (λ c κs. search needs) (λ c κs. search needs) (λ c. search needs) (λ c. search needs)
+    (λ c κs. search needs) (λ c. search needs) returns-4 (λ c. search needs) (λ c. search needs) (λ c. search needs)
+    (λ c. search needs) loop-again (λ c κs. search needs) (λ c κs. search needs) (λ c κs. search needs)
+    (λ c. search needs) returns-5)

@@ -16,18 +16,24 @@ Inv-loop lent₀ places k₀ lent k = (k ≤ 182) × (length lent ≡ length len
 abbrev μ-loop : tie.MeasureT-loop
 μ-loop lent₀ places k₀ lent k = 182 - k
 
+loop-holds : tie.Need-loop-holds Inv-loop μ-loop
+loop-holds c = (omega arith, refl, unfold filled in refl)
+
+loop-again : tie.Need-loop-again Inv-loop μ-loop
+loop-again c =
+    let start = c .before .before in
+    let m = c .before .loop in
+    (omega arith, rw length-set (m .inv .1), place-more (start .args .lent .now) (start .args .t2) (m .k) (m .inv .2))
+
+returns : tie.Need-returns Inv-loop μ-loop
+returns c =
+    let start = c .before .before in
+    let m = c .before .loop in
+    let e : m .k ≡ 182 = omega arith in
+    m .inv .2 ∙ ap (λ (j : ℕ). filled (start .args .lent .now) 0 (placeByte (start .args .t2)) j) e
+
 pub put-places-spec : {M : Type 1} → statement M
 put-places-spec =
     tie.close
-    (tie.spec
-    Inv-loop
-    μ-loop
-    (λ c. (omega arith, refl, unfold filled in refl))
-    (λ c. search needs)
-    (λ c. search needs)
-    (λ c. search needs)
-    (λ c. search needs)
-    (λ c. search needs)
-    (λ c. let m = c .before .loop in (omega arith, rw length-set (m .inv .1), place-more (c .before .before .args .lent .now) (c .before .before .args .t2) (m .k) (m .inv .2)))
-    (λ c. search needs)
-    (λ c. let m = c .before .loop in let e : m .k ≡ 182 = omega arith in m .inv .2 ∙ ap (λ (j : ℕ). filled (c .before .before .args .lent .now) 0 (placeByte (c .before .before .args .t2)) j) e))
+    (tie.spec Inv-loop μ-loop loop-holds (λ c. search needs) (λ c. search needs) (λ c. search needs) (λ c. search needs)
+    (λ c. search needs) loop-again (λ c. search needs) returns)

@@ -3,5 +3,8 @@ use borrow.Author.Needs.{needs}
 use Rattle.session.proofs.reset.nothing.Statement.{statement}
 use Rattle.session.proofs.reset.nothing.Tie as tie
 
+returns : tie.Need-returns
+returns c = rw (c .new .ensures)
+
 pub nothing-spec : {M : Type 1} → statement M
-nothing-spec = tie.close (tie.spec (λ c κs. search needs) (λ c. rw (c .new .ensures)))
+nothing-spec = tie.close (tie.spec (λ c κs. search needs) returns)

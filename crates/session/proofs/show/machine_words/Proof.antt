@@ -5,16 +5,22 @@ use borrow.Author.Needs.{needs}
 use Rattle.session.proofs.show.machine_words.Statement.{statement}
 use Rattle.session.proofs.show.machine_words.Tie as tie
 
+returns : tie.Need-returns
+returns c =
+    let start = c .before .before .before in
+    no-machine (start .args .machine) (c .before .if1 .taken) (c .none .ensures) refl
+
+returns-2 : tie.Need-returns-2
+returns-2 c =
+    let put-words2 = c .before .before .before in
+    let put-words = put-words2 .before .before .before .before .before in
+    let if1 = put-words .before .before .before .before in
+    let start = if1 .before .before in
+    machine-given (start .args .machine) (search needs) (if1 .if1 .left) (put-words .put-words .ensures)
+    (put-words2 .put-words2 .ensures) (c .gave .ensures)
+
 pub machine-words-spec : {M : Type 1} → statement M
 machine-words-spec =
     tie.close
-    (tie.spec
-    (λ c κs. search needs)
-    (λ c. no-machine (c .before .before .before .args .machine) (c .before .if1 .taken) (c .none .ensures) refl)
-    (λ c. search needs)
-    (λ c κs. search needs)
-    (λ c. search needs)
-    (λ c κs. search needs)
-    (λ c κs. search needs)
-    (λ c. search needs)
-    (λ c. machine-given (c .before .before .before .before .before .before .before .before .before .before .before .before .before .before .args .machine) (search needs) (c .before .before .before .before .before .before .before .before .before .before .before .before .if1 .left) (c .before .before .before .before .before .before .before .before .put-words .ensures) (c .before .before .before .put-words2 .ensures) (c .gave .ensures)))
+    (tie.spec (λ c κs. search needs) returns (λ c. search needs) (λ c κs. search needs) (λ c. search needs)
+    (λ c κs. search needs) (λ c κs. search needs) (λ c. search needs) returns-2)

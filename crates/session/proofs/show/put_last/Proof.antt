@@ -4,5 +4,15 @@ use borrow.Author.Needs.{needs}
 use Rattle.session.proofs.show.put_last.Statement.{statement}
 use Rattle.session.proofs.show.put_last.Tie as tie
 
+returns : tie.Need-returns
+returns c =
+    let start = c .before in
+    last-set (start .args .page .now) (start .args .z) (start .args .v) (c .if1 .taken)
+
+returns-2 : tie.Need-returns-2
+returns-2 c =
+    let start = c .before in
+    none-set (start .args .page .now) (start .args .z) (start .args .v) (c .if1 .left)
+
 pub put-last-spec : {M : Type 1} → statement M
-put-last-spec = tie.close (tie.spec (λ c. search needs) (λ c. search needs) (λ c. search needs) (λ c. last-set (c .before .args .page .now) (c .before .args .z) (c .before .args .v) (c .if1 .taken)) (λ c. none-set (c .before .args .page .now) (c .before .args .z) (c .before .args .v) (c .if1 .left)))
+put-last-spec = tie.close (tie.spec (λ c. search needs) (λ c. search needs) (λ c. search needs) returns returns-2)

@@ -5,5 +5,18 @@ use borrow.Author.Needs.{needs}
 use Rattle.session.proofs.show.shown.Statement.{statement}
 use Rattle.session.proofs.show.shown.Tie as tie
 
+returns : tie.Need-returns
+returns c =
+    let start = c .before .before .before .before in
+    view-empty (start .args .view .now) (start .args .from) (start .args .n) (c .before .if1 .taken)
+    (c .refused .ensures) refl
+
+returns-2 : tie.Need-returns-2
+returns-2 c =
+    let part = c .before .before in
+    let if1 = part .before .before in
+    let start = if1 .before .before .before in
+    view-some (start .args .view .now) (start .args .from) (start .args .n) (if1 .if1 .left) (part .part .ensures)
+
 pub shown-spec : {M : Type 1} → statement M
-shown-spec = tie.close (tie.spec (λ c κs. search needs) (λ c. view-empty (c .before .before .before .before .args .view .now) (c .before .before .before .before .args .from) (c .before .before .before .before .args .n) (c .before .if1 .taken) (c .refused .ensures) refl) (λ c κs. search needs) (λ c. search needs) (λ c. view-some (c .before .before .before .before .before .before .before .args .view .now) (c .before .before .before .before .before .before .before .args .from) (c .before .before .before .before .before .before .before .args .n) (c .before .before .before .before .if1 .left) (c .before .before .part .ensures)))
+shown-spec = tie.close (tie.spec (λ c κs. search needs) returns (λ c κs. search needs) (λ c. search needs) returns-2)

@@ -5,7 +5,18 @@ use borrow.Author.Needs.{needs}
 use Rattle.session.proofs.show.view_with.Statement.{statement}
 use Rattle.session.proofs.show.view_with.Tie as tie
 
+slice-aggregate-page-view : tie.Need-slice-aggregate-page-view
+slice-aggregate-page-view c =
+    let start = c .before .before .before .before .before in
+    sym (length-take-le (start .args .z) (start .args .zeros .now) (start .pre))
+
+returns : tie.Need-returns
+returns c =
+    let shown = c .before .before in
+    let page-view = shown .before .before in
+    rw (page-view .page-view .ensures) at (shown .shown .ensures)
+
 pub view-with-spec : {M : Type 1} → statement M
 view-with-spec =
     tie.close
-    (tie.spec (λ c. sym (length-take-le (c .before .before .before .before .before .args .z) (c .before .before .before .before .before .args .zeros .now) (c .before .before .before .before .before .pre))) (λ c κs. search needs) (λ c κs. search needs) (λ c. search needs) (λ c. rw (c .before .before .before .before .page-view .ensures) at (c .before .before .shown .ensures)))
+    (tie.spec slice-aggregate-page-view (λ c κs. search needs) (λ c κs. search needs) (λ c. search needs) returns)

@@ -8,14 +8,23 @@ use borrow.Author.Needs.{needs}
 use Rattle.session.proofs.texts.reply.Statement.{statement}
 use Rattle.session.proofs.texts.reply.Tie as tie
 
+returns : tie.Need-returns
+returns c =
+    let text = c .before .before in
+    let start = text .before .before in
+    c .value .ensures
+    ∙ ap (λ (t : Text). replyOf (passed (textOutcome t)) (start .args .given)) (sym (text .text .given .1))
+
+returns-2 : tie.Need-returns-2
+returns-2 c =
+    let text2 = c .before .before .before in
+    let start = text2 .before .before in
+    rw (c .before .refusal .ensures)
+    at (c .refused .ensures)
+    ∙ ap (λ (t : Text). replyOf (passed (textOutcome t)) (start .args .given)) (sym (text2 .text2 .given .1))
+
 pub reply-spec : {M : Type 1} → statement M
 reply-spec =
     tie.close
-    (tie.spec
-    (λ c. search needs)
-    (λ c κs. search needs)
-    (λ c. search needs)
-    (λ c κs. search needs)
-    (λ c κs. search needs)
-    (λ c. c .value .ensures ∙ ap (λ (t : Text). replyOf (passed (textOutcome t)) (c .before .before .before .before .args .given)) (sym (c .before .before .text .given .1)))
-    (λ c. rw (c .before .refusal .ensures) at (c .refused .ensures) ∙ ap (λ (t : Text). replyOf (passed (textOutcome t)) (c .before .before .before .before .before .args .given)) (sym (c .before .before .before .text2 .given .1))))
+    (tie.spec (λ c. search needs) (λ c κs. search needs) (λ c. search needs) (λ c κs. search needs)
+    (λ c κs. search needs) returns returns-2)

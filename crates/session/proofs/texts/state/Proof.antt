@@ -6,5 +6,11 @@ use borrow.Author.Needs.{needs}
 use Rattle.session.proofs.texts.state.Statement.{statement}
 use Rattle.session.proofs.texts.state.Tie as tie
 
+returns : tie.Need-returns
+returns c =
+    let state-text = c .before .before .before in
+    let start = state-text .before .before .before in
+    texted _ (state (start .pre) refl) (state-text .state-text .ensures) (c .reply .ensures)
+
 pub state-spec : {M : Type 1} → statement M
-state-spec = tie.close (tie.spec (λ c κs. search needs) (λ c κs. search needs) (λ c. search needs) (λ c. texted _ (state (c .before .before .before .before .before .before .pre) refl) (c .before .before .before .state-text .ensures) (c .reply .ensures)))
+state-spec = tie.close (tie.spec (λ c κs. search needs) (λ c κs. search needs) (λ c. search needs) returns)
