@@ -1,5 +1,5 @@
 -- The search of the directory: what `seek` and `foundIn` give. Each law goes by induction along the list, one slot at a time.
-use mathlib.Core.Path.{_≡_, refl, sym, ap}
+use mathlib.Core.Path.{_≡_, refl, sym, ap, _∙_}
 use mathlib.Core.Logic.{⊎-elim}
 use mathlib.Core.Bool.{Bool, true, false, cond}
 use mathlib.Core.List.{List, [], _∷_, _++_}
@@ -8,6 +8,7 @@ use native.Mathlib.Nat.{eq-or-lt-of-le, zero-add}
 use native.Mathlib.Omega.{arith}
 use lib.Dec.{ltb, eqb}
 use lib.ListN.{length, getD, take}
+use lib.Seq.{getD-take}
 use borrow.Author.Tests.{eqb-true, eq-eqb, ne-eqb, lt-ltb, le-ltb, ltb-true}
 use Rattle.store.specs.Store.{seek, foundIn, pickFound}
 use Rattle.store.specs.declared.Found.the-variants.{At, Nothing}
@@ -23,6 +24,10 @@ take-long zero l i h k = omega arith
 take-long (suc n) [] i h k = omega arith
 take-long (suc n) (x ∷ l) zero h k = omega arith
 take-long (suc n) (x ∷ l) (suc i) h k = omega (arith, take-long n l i (omega arith) (omega arith))
+
+pub take-full : (n : ℕ) (l : List ℕ) (k : ℕ) → k ≤ n → k ≤ length l → k ≤ length (take n l)
+take-full n l zero h m = zero-le
+take-full n l (suc i) h m = omega (arith, take-long n l i (omega arith) (omega arith))
 
 -- the place is within the list, or is its length
 pub seek-len : (l : List ℕ) (p : ℕ) → seek l p ≤ length l
@@ -58,6 +63,31 @@ found-at l p i e h = rw (e, lt-ltb i (length l))
 pub found-none : (l : List ℕ) (p : ℕ) → length l ≤ seek l p → foundIn l p ≡ Nothing
 unfolding foundIn
 found-none l p h = rw (le-ltb (seek l p) (length l))
+
+-- the search of the first n slots, by that of the whole list
+pub seek-taken : (n : ℕ) (l : List ℕ) (p i : ℕ) → i ≤ seek l p → i ≤ n → i ≤ length l → i ≤ seek (take n l) p
+unfolding seek
+seek-taken zero l p i h k m = omega arith
+seek-taken (suc n) [] p i h k m = omega arith
+seek-taken (suc n) (x ∷ l) p zero h k m = zero-le
+seek-taken (suc n) (x ∷ l) p (suc i) h k m = go (λ q. seek-taken n l p i q (omega arith) (omega arith)) (eqb x p) h
+  where
+    go : (i ≤ seek l p → i ≤ seek (take n l) p) → (b : Bool) → suc i ≤ cond b 0 (suc (seek l p)) → suc i ≤ cond b 0 (suc (seek (take n l) p))
+    go ih true q = omega arith
+    go ih false q = omega (arith, ih (omega arith))
+
+pub found-taken : (n : ℕ) (l : List ℕ) (p i : ℕ) → i ≡ seek l p → i < length (take n l) → foundIn (take n l) p ≡ At i
+found-taken n l p i e h =
+    let short = take-short n l in
+    let there : getD l i 0 ≡ p = rw e (seek-at l p (omega arith)) in
+    let least : seek (take n l) p ≤ i = seek-le (take n l) p i h (getD-take n l i 0 (omega arith) ∙ there) in
+    let most : i ≤ seek (take n l) p = seek-taken n l p i (omega arith) (omega arith) (omega arith) in
+    found-at (take n l) p i (omega arith) h
+
+pub none-taken : (n : ℕ) (l : List ℕ) (p : ℕ) → length (take n l) ≤ seek l p → foundIn (take n l) p ≡ Nothing
+none-taken n l p h =
+    let short = take-short n l in
+    found-none (take n l) p (seek-taken n l p (length (take n l)) h (short .0) (short .1))
 
 -- a slot found is the place sought
 pub found-seek : (l : List ℕ) (g i : ℕ) → foundIn l g ≡ At i → (seek l g ≡ i) × (i < length l)

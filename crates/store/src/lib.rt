@@ -4,7 +4,7 @@
 // is a lent directory" to "without wrap" and its last sentence, the page view, and the tests of refusal 4. specs/Store.antt has the store as a value:
 // its bytes by physical address, and what writing bytes makes of it; proofs/ has the laws, which name no function of mmu.
 ghost use mathlib.Core.Path.{_≡_};
-ghost use Prim.Native.Nat.{_≤_};
+ghost use Prim.Native.Nat.{_+_, _≤_, _<_};
 ghost use lib.ListN.{length, take};
 ghost use Rattle.store.specs.Store.{storeOf, sound, seek, foundIn, slotOf, lack, touched, absentOf};
 ghost use Rattle.store.specs.View.{zeroPage, viewOf};
@@ -28,50 +28,57 @@ pub fn is_store(dir: &[u64], bytes: &[u8], used: usize) -> bool
     bytes.len() == 4096 * dir.len()
 }
 
-fn least(a: usize, b: usize) -> usize
-    ensures { λ r. ⌜ (r ≤ a) × (r ≤ b) ⌝ }
+// How many slots are in use: no more than there are.
+fn in_use(dir: &[u64], used: usize) -> usize
+    ensures { λ r. ⌜ (r ≡ length (take used (now (dir .entry)))) × (r ≤ length (now (dir .entry))) ⌝ }
 {
-    if a < b {
-        return a;
+    if used < dir.len() {
+        return used;
     }
-    b
+    dir.len()
 }
 
-// A slot that is not past the first one that holds the number: four at a time are passed over.
-fn passed_over(dir: &[u64], used: usize, page: u64) -> usize
-    ensures { λ r. ⌜ (r ≤ used) × (r ≤ length (now (dir .entry))) × (r ≤ seek (take used (now (dir .entry))) page) ⌝ }
+// How far slot i is from the first slot that holds the number, if less than four; else 4. No slot before i holds it.
+fn among_four(dir: &[u64], i: usize, page: u64) -> usize
+    requires { ⌜ (i + 4 ≤ length (now dir)) × (i ≤ seek (now dir) page) ⌝ }
+    ensures { λ r. ⌜ (r ≤ 4) × (i + r ≤ seek (now (dir .entry)) page) × (r < 4 → i + r ≡ seek (now (dir .entry)) page) ⌝ }
 {
-    let mut i: usize = 0;
-    let mut left = least(used, dir.len());
-    while 4 <= left {
-        if dir[i] == page {
-            return i;
-        }
-        if dir[i + 1] == page {
-            return i;
-        }
-        if dir[i + 2] == page {
-            return i;
-        }
-        if dir[i + 3] == page {
-            return i;
-        }
-        i += 4;
-        left -= 4;
+    if dir[i] == page {
+        return 0;
     }
-    i
+    if dir[i + 1] == page {
+        return 1;
+    }
+    if dir[i + 2] == page {
+        return 2;
+    }
+    if dir[i + 3] == page {
+        return 3;
+    }
+    4
 }
 
-// The first slot in use that holds the number (01: "a loop over slots yields the slot number or none by break").
+// The first slot in use that holds the number (01: "a loop over slots yields the slot number or none by break"): eight slots a turn, for speed, and
+// one a turn where fewer are left.
 pub fn find_page(dir: &[u64], used: usize, page: u64) -> Found
     ensures { λ r. ⌜ r ≡ foundIn (take used (now (dir .entry))) page ⌝ }
 {
-    let mut i = passed_over(dir, used, page);
+    let end = in_use(dir, used);
+    let mut i: usize = 0;
     let found = loop {
-        if used <= i {
-            break Found::Nothing;
+        if 8 <= end - i {
+            let k = among_four(dir, i, page);
+            if k < 4 {
+                break Found::At(i + k);
+            }
+            let m = among_four(dir, i + 4, page);
+            if m < 4 {
+                break Found::At(i + 4 + m);
+            }
+            i += 8;
+            continue;
         }
-        if dir.len() <= i {
+        if end <= i {
             break Found::Nothing;
         }
         if dir[i] == page {

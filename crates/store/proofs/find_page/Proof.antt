@@ -1,57 +1,59 @@
--- `find_page` gives `foundIn`: while the loop runs, the page is sought no earlier than at slot i.
-use mathlib.Core.Path.{sym, _∙_}
-use Prim.Native.Nat.{_≤_, _<_, _-_}
+-- `find_page` gives `foundIn`: while the loop runs, no slot before i holds the page, in the whole directory; the laws
+-- of `take` say that the
+-- first of the slots in use is then the first of all, if it is among them.
+use mathlib.Core.Path.{sym}
+use Prim.Native.Nat.{_+_, _-_, _≤_}
 use native.Mathlib.Omega.{arith}
-use lib.ListN.{length, take}
-use lib.Seq.{getD-take}
 use borrow.Author.Needs.{needs}
 use Rattle.store.specs.Store.{seek}
-use Rattle.store.proofs.Seek.{seek-le, seek-more, take-short, take-long, found-at, found-none}
+use Rattle.store.proofs.Seek.{seek-le, seek-more, found-taken, none-taken}
 use Rattle.store.proofs.find_page.Statement.{statement}
 use Rattle.store.proofs.find_page.Tie as tie
 
 abbrev Inv-loop : tie.InvT-loop
-Inv-loop dir used page i₀ i = (i ≤ used) × (i ≤ length dir) × (i ≤ seek (take used dir) page)
+Inv-loop dir used page end i₀ i = (i ≤ end) × (i ≤ seek dir page)
 
 abbrev μ-loop : tie.MeasureT-loop
-μ-loop dir used page i₀ i = used - i
+μ-loop dir used page end i₀ i = end - i
 
-loop-again : tie.Need-loop-again Inv-loop μ-loop
-loop-again c =
+loop-again-2 : tie.Need-loop-again-2 Inv-loop μ-loop
+loop-again-2 c =
     let loop = c .before .before .before .before in
     let s = loop .before .before .before .args in
-    let i = loop .loop .i in
-    let l = take (s .used) (s .dir .now) in
-    let inside : i < length l = take-long (s .used) (s .dir .now) i (omega arith) (omega arith) in (
-      omega arith,
-      omega arith,
-      seek-more l (s .page) i (loop .loop .inv .2) inside
-          (λ e. c .if3 .left (sym (getD-take (s .used) (s .dir .now) i 0 (omega arith)) ∙ e)),
-    )
+    (omega arith, seek-more (s .dir .now) (s .page) (loop .loop .i) (loop .loop .inv .1) (omega arith) (c .if5 .left))
 
 returns : tie.Need-returns Inv-loop μ-loop
 returns c =
-    let s = c .before .before .before .before .args in
-    sym (found-none (take (s .used) (s .dir .now)) (s .page) (omega (arith, take-short (s .used) (s .dir .now))))
+    let first = c .before in
+    let loop = first .before .before in
+    let s = loop .before .before .before .args in
+    sym (found-taken (s .used) (s .dir .now) (s .page) (loop .loop .i + first .among-four .result)
+    (first .among-four .ensures .2 (c .if2 .taken)) (omega arith))
 
 returns-2 : tie.Need-returns-2 Inv-loop μ-loop
 returns-2 c =
-    let s = c .before .before .before .before .before .args in
-    sym (found-none (take (s .used) (s .dir .now)) (s .page) (omega (arith, take-short (s .used) (s .dir .now))))
+    let second = c .before in
+    let loop = second .before .before .before .before in
+    let s = loop .before .before .before .args in
+    sym (found-taken (s .used) (s .dir .now) (s .page) (loop .loop .i + 4 + second .among-four2 .result)
+    (second .among-four2 .ensures .2 (c .if3 .taken)) (omega arith))
 
 returns-3 : tie.Need-returns-3 Inv-loop μ-loop
 returns-3 c =
+    let s = c .before .before .before .before .before .args in
+    sym (none-taken (s .used) (s .dir .now) (s .page) (omega arith))
+
+returns-4 : tie.Need-returns-4 Inv-loop μ-loop
+returns-4 c =
     let loop = c .before .before .before .before in
     let s = loop .before .before .before .args in
-    let i = loop .loop .i in
-    let l = take (s .used) (s .dir .now) in
-    let inside : i < length l = take-long (s .used) (s .dir .now) i (omega arith) (omega arith) in
-    let le : seek l (s .page) ≤ i =
-    seek-le l (s .page) i inside (getD-take (s .used) (s .dir .now) i 0 (omega arith) ∙ c .if3 .taken) in
-    sym (found-at l (s .page) i (omega arith) inside)
+    let here = seek-le (s .dir .now) (s .page) (loop .loop .i) (omega arith) (c .if5 .taken) in
+    sym (found-taken (s .used) (s .dir .now) (s .page) (loop .loop .i) (omega arith) (omega arith))
 
 pub find-page-spec : {M : Type 1} → statement M
 find-page-spec =
     tie.close
-    (tie.spec Inv-loop μ-loop (λ c κs. search needs) (λ c. search needs) (λ c. search needs) (λ c. search needs)
-    (λ c. search needs) (λ c. search needs) loop-again returns returns-2 returns-3)
+    (tie.spec Inv-loop μ-loop (λ c κs. search needs) (λ c. search needs) (λ c. search needs) (λ c κs. search needs)
+    (λ c. search needs) (λ c. search needs) (λ c κs. search needs) (λ c. search needs) (λ c. search needs)
+    (λ c. search needs) (λ c. search needs) (λ c. search needs) (λ c. search needs) (λ c. search needs)
+    (λ c. search needs) (λ c. search needs) loop-again-2 returns returns-2 returns-3 returns-4)
