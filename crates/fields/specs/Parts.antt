@@ -19,4 +19,4 @@ abbrev pub memoryValue : ArgumentSize → ℕ → ℕ
 memoryValue Bit64 x = x
 memoryValue Bit32 x = extend 32 x
 memoryValue Bit16 x = extend 16 x
-memoryValue Bit8 x = x
+memoryValue Bit8 x = x % 2 ^ 8

@@ -36,15 +36,16 @@ pub fn write_part(part: Part, x: u64, value: u64) -> u64
     }
 }
 
-// A value of memory at a size. A byte stands as it is, unlike an 8-bit register (01: "Bit8 zero-extends").
+// A word's low bits as a value of memory. A byte has zeros above it, unlike an 8-bit register (01: "Bit8 zero-extends"): cut off, it is
+// extended from bit 63, which is 0.
 pub fn memory_value(word: u64, size: ArgumentSize) -> u64
     ensures { λ r. ⌜ r ≡ memoryValue size word ⌝ }
 {
     match size {
-        ArgumentSize::Bit64 => utils::sign_extend(word, 64),
+        ArgumentSize::Bit64 => word,
         ArgumentSize::Bit32 => utils::sign_extend(word, 32),
         ArgumentSize::Bit16 => utils::sign_extend(word, 16),
-        ArgumentSize::Bit8 => utils::sign_extend(word, 64),
+        ArgumentSize::Bit8 => utils::sign_extend(word % 0x100, 64),
     }
 }
 
