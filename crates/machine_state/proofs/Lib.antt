@@ -1,3 +1,4 @@
+pub mod Controls
 pub mod Lanes
 pub mod Outcomes
 pub mod Steps

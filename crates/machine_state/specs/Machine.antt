@@ -1,12 +1,13 @@
 -- The machine's registers: what a read gives and a write leaves, by the table of 01, "Registers and flags".
-use mathlib.Core.Bool.{cond}
-use mathlib.Core.List.{List}
+use mathlib.Core.Bool.{Bool, true, false, cond}
+use mathlib.Core.List.{List, [], _∷_}
 use Prim.Native.Nat.{ℕ}
-use lib.Dec.{ltb}
+use lib.Dec.{eqb}
 use lib.ListN.{getD, set, replicate}
 use Rattle.fields.specs.Parts.{readOf, writeOf}
 use Rattle.instruction_set.specs.Registers.{parentOf, partOf}
 use Rattle.instruction_set.specs.declared.Register.{Register}
+use Rattle.instruction_set.specs.declared.Register.the-variants.{CR0, CR2, CR3, CR4, CR8}
 use Rattle.machine_state.specs.declared.Changed.{Changed}
 use Rattle.machine_state.specs.declared.Event.{Event}
 use Rattle.machine_state.specs.declared.Event.the-variants.{Quiet, Control}
@@ -37,6 +38,19 @@ readReg m r = readOf (partOf r) (parentAt m (parentOf r))
 unfoldable pub writeReg : MachineState → Register → ℕ → MachineState
 writeReg m r v = withRegs m (set (m .regs) (parentOf r) (writeOf (partOf r) (parentAt m (parentOf r)) v))
 
--- "Writing CR0, CR2, CR3, CR4 or CR8 gives an event with the register and the value": parents 17 to 21
+-- the registers whose writing gives an event
+abbrev pub controls : List Register
+controls = CR0 ∷ CR2 ∷ CR3 ∷ CR4 ∷ CR8 ∷ []
+
+-- whether parent i is that of one of these registers
+abbrev pub parentAmong : ℕ → List Register → Bool
+parentAmong i [] = false
+parentAmong i (r ∷ rs) = cond (eqb i (parentOf r)) true (parentAmong i rs)
+
+-- whether r is one of the five: its parent tells, each being the only register of its parent (`control-named`: proofs/Controls.antt)
+unfoldable pub isControl : Register → Bool
+isControl r = parentAmong (parentOf r) controls
+
+-- "Writing CR0, CR2, CR3, CR4 or CR8 gives an event with the register and the value"
 unfoldable pub eventOf : Register → ℕ → Event
-eventOf r v = cond (ltb (parentOf r) 17) Quiet (Control r v)
+eventOf r v = cond (isControl r) (Control r v) Quiet

@@ -1,9 +1,8 @@
--- `machine_state::MachineState::set_register_value` meets its contract: the parent takes what the part writes, and
--- parents from 17 on give the event. Assumes nothing.
+-- `machine_state::MachineState::set_register_value` meets its contract: the parent takes what the part writes, and the
+-- registers of the parents from 17 on are the five that give an event. Assumes nothing.
 use Rattle.machine_state.specs.Machine.{changed, writeReg, eventOf}
-use Rattle.instruction_set.specs.Registers.{parentOf}
-use borrow.Author.Tests.{lt-ltb, le-ltb}
 use Rattle.instruction_set.proofs.Bounds.{parent-below}
+use Rattle.machine_state.proofs.Controls.{control-below, control-above}
 use native.Mathlib.Omega.{arith}
 use mathlib.Core.Path.{ap₂}
 use borrow.Author.Needs.{needs}
@@ -33,7 +32,7 @@ returns c =
     let get-parent = get-part .before .before in
     let start = get-parent .before in
     ap₂ changed (rw (c .before .write-part .ensures, get-part .get-part .ensures, get-parent .get-parent .ensures))
-    (simp (lt-ltb (parentOf (start .args .register)) 17 (omega arith)))
+    (simp (control-below (start .args .register) (omega arith)))
 
 returns-2 : tie.Need-returns-2
 unfolding writeReg eventOf
@@ -42,7 +41,7 @@ returns-2 c =
     let get-parent = get-part .before .before in
     let start = get-parent .before in
     ap₂ changed (rw (c .before .write-part .ensures, get-part .get-part .ensures, get-parent .get-parent .ensures))
-    (simp (le-ltb (parentOf (start .args .register)) 17 (omega arith)))
+    (simp (control-above (start .args .register) (omega arith)))
 
 pub set-register-value-spec : {M : Type 1} → statement M
 set-register-value-spec =
