@@ -1,3 +1,4 @@
 pub mod Writing
 pub mod HexLaws
+pub mod DecimalLaws
 pub mod Longest
