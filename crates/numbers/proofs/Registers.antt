@@ -1,13 +1,20 @@
--- The register at place n of the list has number n: the numbers of the list are seen to be 0, 1, .. by computation. Assumes nothing.
+-- What stands at a number: one of the list, or nothing past its end. And the lists agree with the numbers: the register at place n has
+-- number n, as the numbers of the list are seen to be 0, 1, .. by computation, and each size stands at its number, by cases. Assumes nothing.
 use mathlib.Core.List.{List, [], _∷_, map}
 use mathlib.Core.Path.{_≡_, refl, sym, ap, _∙_}
-use Prim.Native.Nat.{ℕ, zero, suc, _+_, _<_}
+use Prim.Native.Nat.{ℕ, zero, suc, _+_, _<_, _≤_}
 use native.Mathlib.Nat.{zero-add}
 use native.Mathlib.Omega.{arith}
-use lib.ListN.{getD}
+use lib.ListN.{length, getD, List·getD-map, List·getD-eq-default}
+use Rattle.instruction_set.specs.declared.ArgumentSize.{ArgumentSize}
+use Rattle.instruction_set.specs.declared.ArgumentSize.the-variants.{Bit64, Bit32, Bit16, Bit8}
+use Rattle.instruction_set.specs.declared.Flags.the-variants.{Carry, Parity, Zero, Sign, Direction, Overflow}
 use Rattle.instruction_set.specs.declared.Register.{Register}
 use Rattle.instruction_set.specs.declared.Register.the-variants.{RAX}
-use Rattle.numbers.specs.Numbers.{registers, numberOf}
+use Rattle.instruction_set.specs.declared.SomeRegister.the-variants as register
+use Rattle.instruction_set.specs.declared.SomeSize.the-variants as size
+use Rattle.numbers.specs.Numbers.{registers, numberOf, registerAt, sizeNumber, sizeAt, flagAt}
+use Rattle.numbers.specs.declared.SomeFlag.the-variants as flag
 
 -- n numbers from k on
 abbrev upFrom : ℕ → ℕ → List ℕ
@@ -19,13 +26,38 @@ up-at k zero i lt = absurd (omega (arith, lt))
 up-at k (suc n) zero lt = omega arith
 up-at k (suc n) (suc i) lt = let e = up-at (suc k) n i (omega (arith, lt)) in omega (arith, e)
 
-number-map : (rs : List Register) (n : ℕ) → getD (map numberOf rs) n (numberOf RAX) ≡ numberOf (getD rs n RAX)
-number-map [] n = refl
-number-map (r ∷ rs) zero = refl
-number-map (r ∷ rs) (suc n) = number-map rs n
-
 pub number-at : (n : ℕ) → n < 80 → numberOf (getD registers n RAX) ≡ n
 unfolding numberOf
 number-at n lt =
     let numbers : map numberOf registers ≡ upFrom 0 80 = refl in
-    sym (number-map registers n) ∙ ap (λ (l : List ℕ). getD l n 0) numbers ∙ up-at 0 80 n lt ∙ zero-add n
+    sym (List·getD-map numberOf registers n RAX) ∙ ap (λ (l : List ℕ). getD l n 0) numbers ∙ up-at 0 80 n lt ∙ zero-add n
+
+-- one of a list of registers, or none past its end
+present-in : (rs : List Register) (n : ℕ) → n < length rs
+    → getD (map register.Present rs) n register.Absent ≡ register.Present (getD rs n RAX)
+present-in [] n lt = absurd (omega (arith, lt))
+present-in (r ∷ rs) zero lt = refl
+present-in (r ∷ rs) (suc n) lt = present-in rs n (omega (arith, lt))
+
+pub stands : (n : ℕ) → n < 80 → registerAt n ≡ register.Present (getD registers n RAX)
+unfolding registerAt
+stands n lt = present-in registers n lt
+
+pub nothing-past : (n : ℕ) → 80 ≤ n → registerAt n ≡ register.Absent
+unfolding registerAt
+nothing-past n le = List·getD-eq-default (map register.Present registers) register.Absent le
+
+pub no-size : (n : ℕ) → 4 ≤ n → sizeAt n ≡ size.Absent
+unfolding sizeAt
+no-size n le = List·getD-eq-default (map size.Present (Bit64 ∷ Bit32 ∷ Bit16 ∷ Bit8 ∷ [])) size.Absent le
+
+pub no-flag : (n : ℕ) → 6 ≤ n → flagAt n ≡ flag.Absent
+unfolding flagAt
+no-flag n le = List·getD-eq-default (map flag.Present (Carry ∷ Parity ∷ Zero ∷ Sign ∷ Direction ∷ Overflow ∷ [])) flag.Absent le
+
+pub size-stands : (z : ArgumentSize) → sizeAt (sizeNumber z) ≡ size.Present z
+unfolding sizeAt
+size-stands Bit64 = refl
+size-stands Bit32 = refl
+size-stands Bit16 = refl
+size-stands Bit8 = refl

@@ -1,10 +1,9 @@
--- The numbers of docs/FORMAT.md: registers, sizes and flags, numbered in the Rust's order; and what is found at a number.
-use mathlib.Core.List.{List, [], _∷_}
-use mathlib.Core.Path.{_≡_}
-use Prim.Native.Nat.{ℕ, _≤_}
+-- The numbers of docs/FORMAT.md, "A record": registers, sizes and flags, numbered in the Rust's order; and what stands at a number.
+use mathlib.Core.List.{List, [], _∷_, map}
+use Prim.Native.Nat.{ℕ}
+use lib.ListN.{getD}
 use Rattle.instruction_set.specs.declared.ArgumentSize.{ArgumentSize}
 use Rattle.instruction_set.specs.declared.ArgumentSize.the-variants.{Bit64, Bit32, Bit16, Bit8}
-use Rattle.instruction_set.specs.declared.Flags.{Flags}
 use Rattle.instruction_set.specs.declared.Flags.the-variants.{Carry, Parity, Zero, Sign, Direction, Overflow}
 use Rattle.instruction_set.specs.declared.Register.{Register}
 use Rattle.instruction_set.specs.declared.Register.the-variants as reg
@@ -103,29 +102,8 @@ sizeNumber Bit32 = 1
 sizeNumber Bit16 = 2
 sizeNumber Bit8 = 3
 
-abbrev pub flagNumber : Flags → ℕ
-flagNumber Carry = 0
-flagNumber Parity = 1
-flagNumber Zero = 2
-flagNumber Sign = 3
-flagNumber Direction = 4
-flagNumber Overflow = 5
-
--- what is found has the number; nothing is found past the last
-abbrev pub placeMeans : ℕ → SomeRegister → Type 0
-placeMeans n register.Absent = 80 ≤ n
-placeMeans n (register.Present r) = n ≡ numberOf r
-
-abbrev pub someSizeMeans : ℕ → SomeSize → Type 0
-someSizeMeans n size.Absent = 4 ≤ n
-someSizeMeans n (size.Present z) = n ≡ sizeNumber z
-
-abbrev pub flagMeans : ℕ → SomeFlag → Type 0
-flagMeans n flag.Absent = 6 ≤ n
-flagMeans n (flag.Present f) = n ≡ flagNumber f
-
--- ---- what only private functions' contracts cite
--- the 80 registers, each at its number
+-- ---- what stands at a number: the one of the list, and nothing past its last
+-- "Registers are numbered in the Rust's order, RAX 0 to GS 79"
 abbrev pub registers : List Register
 registers =
     reg.RAX ∷ reg.RBX ∷ reg.RCX ∷ reg.RDX ∷ reg.RSP ∷ reg.RBP ∷ reg.RSI ∷ reg.RDI ∷ reg.R8 ∷ reg.R9 ∷ reg.R10 ∷ reg.R11 ∷ reg.R12 ∷ reg.R13 ∷ reg.R14 ∷ reg.R15 ∷ reg.RIP ∷ reg.CR0 ∷ reg.CR2 ∷ reg.CR3 ∷ reg.CR4 ∷ reg.CR8 ∷
@@ -133,3 +111,14 @@ registers =
     reg.AX ∷ reg.CX ∷ reg.DX ∷ reg.BX ∷ reg.SP ∷ reg.BP ∷ reg.SI ∷ reg.DI ∷ reg.R8W ∷ reg.R9W ∷ reg.R10W ∷ reg.R11W ∷ reg.R12W ∷ reg.R13W ∷ reg.R14W ∷ reg.R15W ∷
     reg.AL ∷ reg.CL ∷ reg.DL ∷ reg.BL ∷ reg.AH ∷ reg.CH ∷ reg.DH ∷ reg.BH ∷ reg.SPL ∷ reg.BPL ∷ reg.SIL ∷ reg.DIL ∷ reg.R8B ∷ reg.R9B ∷ reg.R10B ∷ reg.R11B ∷ reg.R12B ∷ reg.R13B ∷ reg.R14B ∷ reg.R15B ∷
     reg.ES ∷ reg.CS ∷ reg.SS ∷ reg.DS ∷ reg.FS ∷ reg.GS ∷ []
+
+unfoldable pub registerAt : ℕ → SomeRegister
+registerAt n = getD (map register.Present registers) n register.Absent
+
+-- "0 Bit64, 1 Bit32, 2 Bit16, 3 Bit8"
+unfoldable pub sizeAt : ℕ → SomeSize
+sizeAt n = getD (map size.Present (Bit64 ∷ Bit32 ∷ Bit16 ∷ Bit8 ∷ [])) n size.Absent
+
+-- "flags Carry 0, Parity, Zero, Sign, Direction, Overflow 5"
+unfoldable pub flagAt : ℕ → SomeFlag
+flagAt n = getD (map flag.Present (Carry ∷ Parity ∷ Zero ∷ Sign ∷ Direction ∷ Overflow ∷ [])) n flag.Absent

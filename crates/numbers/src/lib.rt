@@ -9,7 +9,7 @@ ghost use mathlib.Core.Path.{_≡_};
 ghost use Prim.Native.Nat.{_<_};
 ghost use lib.ListN.{getD};
 ghost use Rattle.instruction_set.specs.declared.Register.the-variants.{RAX};
-ghost use Rattle.numbers.specs.Numbers.{numberOf, sizeNumber, placeMeans, flagMeans, someSizeMeans, registers};
+ghost use Rattle.numbers.specs.Numbers.{numberOf, sizeNumber, registers, registerAt, sizeAt, flagAt};
 
 pub enum SomeFlag {
     Absent,
@@ -197,7 +197,7 @@ fn register_in(n: usize) -> Register
 
 // The register at a place among the 80.
 pub fn register_at(n: u64) -> SomeRegister
-    ensures { λ r. ⌜ placeMeans n r ⌝ }
+    ensures { λ r. ⌜ r ≡ registerAt n ⌝ }
 {
     if 80 <= n {
         return SomeRegister::Absent;
@@ -217,7 +217,7 @@ pub fn size_number(size: ArgumentSize) -> u64
 }
 
 pub fn size_at(n: u64) -> SomeSize
-    ensures { λ r. ⌜ someSizeMeans n r ⌝ }
+    ensures { λ r. ⌜ r ≡ sizeAt n ⌝ }
 {
     match n {
         0 => SomeSize::Present(ArgumentSize::Bit64),
@@ -229,7 +229,7 @@ pub fn size_at(n: u64) -> SomeSize
 }
 
 pub fn flag_at(n: u64) -> SomeFlag
-    ensures { λ r. ⌜ flagMeans n r ⌝ }
+    ensures { λ r. ⌜ r ≡ flagAt n ⌝ }
 {
     match n {
         0 => SomeFlag::Present(Flags::Carry),

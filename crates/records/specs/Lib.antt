@@ -1,5 +1,5 @@
 pub mod Words
 pub mod Events
-pub mod Means
 pub mod Built
+pub mod Decoded
 pub mod Answers

@@ -17,7 +17,8 @@ use numbers::register_at;
 use numbers::size_at;
 ghost use mathlib.Core.Path.{_≡_};
 ghost use Rattle.records.specs.Built.{argumentsOf, firstGiven, secondGiven, opcodeGiven, sizeGiven};
-ghost use Rattle.records.specs.Means.{partMeans, factorMeans, farMeans, explicitMeans, codeMeans, givenMeans, presentMeans, decodedMeans, builtMeans, occurredMeans};
+ghost use Rattle.records.specs.Decoded.{partAt, factorAt, farAt, explicitAt, codeAt, registerOperand, addressOperand, operandAt, givenAt, argumentsAt};
+ghost use Rattle.records.specs.Decoded.{readCall, writeCall, addressCall, testCall, setCall, computeCall, callOf, controlEvent, videoEvent, eventAt};
 
 // A base or an index of a record, or a word that names none.
 pub(crate) enum Part {
@@ -67,7 +68,7 @@ pub enum SomeEvent {
 
 // Absent at 0, else the register at the number less 1.
 fn part_at(n: u64) -> Part
-    ensures { λ r. ⌜ partMeans n r ⌝ }
+    ensures { λ r. ⌜ r ≡ partAt n ⌝ }
 {
     if n == 0 {
         return Part::Is(SomeRegister::Absent);
@@ -80,7 +81,7 @@ fn part_at(n: u64) -> Part
 }
 
 fn scale_at(n: u64) -> Factor
-    ensures { λ r. ⌜ factorMeans n r ⌝ }
+    ensures { λ r. ⌜ r ≡ factorAt n ⌝ }
 {
     if n == 0 {
         return Factor::Is(SomeScale::Absent);
@@ -93,7 +94,7 @@ fn scale_at(n: u64) -> Factor
 
 // The 64 bits are those of a number of 32 with its sign.
 fn displacement(word: u64) -> Far
-    ensures { λ r. ⌜ farMeans word r ⌝ }
+    ensures { λ r. ⌜ r ≡ farAt word ⌝ }
 {
     let value = utils::signed(word);
     if value < -0x8000_0000 {
@@ -106,8 +107,7 @@ fn displacement(word: u64) -> Far
 }
 
 fn register_operand(words: OperandWords) -> Operand
-    requires { ⌜ words .kind ≡ 2 ⌝ }
-    ensures { λ r. ⌜ givenMeans words r ⌝ }
+    ensures { λ r. ⌜ r ≡ registerOperand words ⌝ }
 {
     let found = part_at(words.base);
     let Part::Is(part) = found else {
@@ -122,8 +122,7 @@ fn register_operand(words: OperandWords) -> Operand
 }
 
 fn address_operand(words: OperandWords) -> Operand
-    requires { ⌜ words .kind ≡ 3 ⌝ }
-    ensures { λ r. ⌜ givenMeans words r ⌝ }
+    ensures { λ r. ⌜ r ≡ addressOperand words ⌝ }
 {
     let first = part_at(words.base);
     let Part::Is(base) = first else {
@@ -150,7 +149,7 @@ fn address_operand(words: OperandWords) -> Operand
 }
 
 fn decode_operand(words: OperandWords) -> Operand
-    ensures { λ r. ⌜ givenMeans words r ⌝ }
+    ensures { λ r. ⌜ r ≡ operandAt words ⌝ }
 {
     let kind = words.kind;
     match kind {
@@ -166,7 +165,7 @@ fn decode_operand(words: OperandWords) -> Operand
 
 // The parts of an arguments record that a header gives. Size 0 to 3 or 4 for none; the opcode plus 1, or 0 for none.
 fn explicit_at(n: u64) -> Explicit
-    ensures { λ r. ⌜ explicitMeans n r ⌝ }
+    ensures { λ r. ⌜ r ≡ explicitAt n ⌝ }
 {
     if n == 4 {
         return Explicit::Is(SomeSize::Absent);
@@ -179,7 +178,7 @@ fn explicit_at(n: u64) -> Explicit
 }
 
 fn opcode_at(n: u64) -> Opcode
-    ensures { λ r. ⌜ codeMeans n r ⌝ }
+    ensures { λ r. ⌜ r ≡ codeAt n ⌝ }
 {
     if n == 0 {
         return Opcode::Is(SomeOpcode::Absent);
@@ -254,7 +253,7 @@ fn with_size(builder: InstructionArgumentsBuilder, size: SomeSize) -> Instructio
 
 // The arguments record of a header, with the words of its two repeats: 0 or 1.
 pub fn decode_arguments(header: Header, equal: u64, not_equal: u64) -> SomeArguments
-    ensures { λ r. ⌜ builtMeans header equal «not_equal» r ⌝ }
+    ensures { λ r. ⌜ r ≡ argumentsAt header equal «not_equal» ⌝ }
 {
     if 1 < equal {
         return SomeArguments::Malformed;
@@ -283,7 +282,7 @@ pub fn decode_arguments(header: Header, equal: u64, not_equal: u64) -> SomeArgum
 
 // The first operand, which must be given.
 pub fn given_operand(words: OperandWords) -> SomeArgument
-    ensures { λ r. ⌜ presentMeans words r ⌝ }
+    ensures { λ r. ⌜ r ≡ givenAt words ⌝ }
 {
     let operand = decode_operand(words);
     match operand {
@@ -293,8 +292,7 @@ pub fn given_operand(words: OperandWords) -> SomeArgument
 }
 
 fn read_operand(header: Header) -> SomeCall
-    requires { ⌜ header .kind ≡ 1 ⌝ }
-    ensures { λ r. ⌜ decodedMeans header r ⌝ }
+    ensures { λ r. ⌜ r ≡ readCall header ⌝ }
 {
     let operand = given_operand(header.first);
     let SomeArgument::Present(argument) = operand else {
@@ -308,8 +306,7 @@ fn read_operand(header: Header) -> SomeCall
 }
 
 fn write_operand(header: Header) -> SomeCall
-    requires { ⌜ header .kind ≡ 2 ⌝ }
-    ensures { λ r. ⌜ decodedMeans header r ⌝ }
+    ensures { λ r. ⌜ r ≡ writeCall header ⌝ }
 {
     let operand = given_operand(header.first);
     let SomeArgument::Present(argument) = operand else {
@@ -327,8 +324,7 @@ fn write_operand(header: Header) -> SomeCall
 }
 
 fn effective_address(header: Header) -> SomeCall
-    requires { ⌜ header .kind ≡ 3 ⌝ }
-    ensures { λ r. ⌜ decodedMeans header r ⌝ }
+    ensures { λ r. ⌜ r ≡ addressCall header ⌝ }
 {
     let operand = given_operand(header.first);
     match operand {
@@ -338,8 +334,7 @@ fn effective_address(header: Header) -> SomeCall
 }
 
 fn test_flag(header: Header) -> SomeCall
-    requires { ⌜ header .kind ≡ 8 ⌝ }
-    ensures { λ r. ⌜ decodedMeans header r ⌝ }
+    ensures { λ r. ⌜ r ≡ testCall header ⌝ }
 {
     let found = flag_at(header.a);
     match found {
@@ -349,8 +344,7 @@ fn test_flag(header: Header) -> SomeCall
 }
 
 fn set_flag(header: Header) -> SomeCall
-    requires { ⌜ header .kind ≡ 9 ⌝ }
-    ensures { λ r. ⌜ decodedMeans header r ⌝ }
+    ensures { λ r. ⌜ r ≡ setCall header ⌝ }
 {
     if 1 < header.b {
         return SomeCall::Malformed;
@@ -366,8 +360,7 @@ fn set_flag(header: Header) -> SomeCall
 }
 
 fn compute_flags(header: Header) -> SomeCall
-    requires { ⌜ header .kind ≡ 10 ⌝ }
-    ensures { λ r. ⌜ decodedMeans header r ⌝ }
+    ensures { λ r. ⌜ r ≡ computeCall header ⌝ }
 {
     let found = size_at(header.size);
     match found {
@@ -381,7 +374,7 @@ fn compute_flags(header: Header) -> SomeCall
 
 // The tabled call of a header.
 pub fn decode_call(header: Header) -> SomeCall
-    ensures { λ r. ⌜ decodedMeans header r ⌝ }
+    ensures { λ r. ⌜ r ≡ callOf header ⌝ }
 {
     let kind = header.kind;
     match kind {
@@ -400,8 +393,7 @@ pub fn decode_call(header: Header) -> SomeCall
 }
 
 fn control_event(words: OperandWords) -> SomeEvent
-    requires { ⌜ words .kind ≡ 1 ⌝ }
-    ensures { λ r. ⌜ occurredMeans words r ⌝ }
+    ensures { λ r. ⌜ r ≡ controlEvent words ⌝ }
 {
     let found = part_at(words.base);
     let Part::Is(part) = found else {
@@ -417,8 +409,7 @@ fn control_event(words: OperandWords) -> SomeEvent
 }
 
 fn video_event(words: OperandWords) -> SomeEvent
-    requires { ⌜ words .kind ≡ 2 ⌝ }
-    ensures { λ r. ⌜ occurredMeans words r ⌝ }
+    ensures { λ r. ⌜ r ≡ videoEvent words ⌝ }
 {
     if 255 < words.value {
         return SomeEvent::Malformed;
@@ -429,7 +420,7 @@ fn video_event(words: OperandWords) -> SomeEvent
 }
 
 pub fn decode_event(words: OperandWords) -> SomeEvent
-    ensures { λ r. ⌜ occurredMeans words r ⌝ }
+    ensures { λ r. ⌜ r ≡ eventAt words ⌝ }
 {
     let kind = words.kind;
     match kind {

@@ -1,4 +1,4 @@
--- Replies: what a truth is as a byte, and what `Put` says of bytes that are given. By cases. Assumes nothing.
+-- Replies: what a truth is as a byte, what `Put` says of bytes that are given, a text, and no record. By cases. Assumes nothing.
 use mathlib.Core.Bool.{Bool, true, false, not, cond}
 use mathlib.Core.List.{List, []}
 use mathlib.Core.Path.{_≡_, refl, sym, ap, _∙_}
@@ -8,13 +8,11 @@ use mir.Val.{boolByte}
 use borrow.Author.Tests.{not-true, not-false}
 use Rattle.utils.specs.Outcome.{Outcome, gives}
 use Rattle.machine_state.specs.Memory.{passed}
-use Rattle.machine_state.specs.declared.MachineState.{MachineState}
 use Rattle.text.specs.Answers.{Told, Said}
 use Rattle.runs.specs.Runs.{Put}
-use Rattle.records.specs.declared.Header.{Header}
 use Rattle.records.specs.declared.Reply.{Reply}
-use Rattle.session.specs.Replies.{replyOf, noReply, Given}
-use Rattle.session.specs.Texts.{Asks, Texts, text}
+use Rattle.session.specs.Replies.{replyOf, noReply, NoRecord, Given}
+use Rattle.session.specs.Texts.{Texts, asks}
 
 pub bool-byte : (b : Bool) → boolByte b ≡ cond b 1 0
 bool-byte true = refl
@@ -28,5 +26,9 @@ pub given-done : {ok b : Bool} {g at n : ℕ} {d d′ : List ℕ} {f : ℕ → �
 given-done {b = b} p t e = record { reply = rw (sym (p .done) ∙ not-false b t) e; bytes = p .bytes }
 
 -- a text that was said is the one that was asked for
-pub texted : {h : Header} {m : MachineState} {l l′ : List ℕ} {r : Reply} {o : Outcome ℕ} (t : Told) → Asks h m t → Said t l l′ o → r ≡ replyOf (passed o) (length l) → Texts h m l r l′
-texted {l = l} t a s e = text t a (e ∙ ap (λ (x : Outcome ℕ). replyOf (passed x) (length l)) (s .answer)) (s .bytes)
+pub texted : {l l′ : List ℕ} {r : Reply} {o : Outcome ℕ} (t : Told) → Said t l l′ o → r ≡ replyOf (passed o) (length l)
+    → Texts (asks t) l r l′
+texted {l} t s e = (e ∙ ap (λ (x : Outcome ℕ). replyOf (passed x) (length l)) (s .answer), s .bytes)
+
+pub no-record : {l : List ℕ} {r : Reply} → r ≡ noReply → NoRecord l r l
+no-record e = record { reply = e; bytes = refl }

@@ -1,57 +1,66 @@
--- The list of a report: no call is told at first, and each turn tells one more; and what a report says. Assumes nothing.
+-- The list of a report: each turn lists one call more, or there is no list; when a block is whole; and what a report says. Assumes nothing.
 use mathlib.Core.Bool.{Bool, true, false}
 use mathlib.Core.List.{List}
-use mathlib.Core.Path.{_≡_, refl, sym, ap, _∙_}
-use mathlib.Core.Logic.{_⊎_, inl, inr}
-use Prim.Native.Nat.{ℕ, zero, suc, _+_, _≤_, _<_}
+use mathlib.Core.Path.{_≡_, sym, ap, _∙_}
+use Prim.Native.Nat.{ℕ, zero, suc, _+_, _-_, _/_, _%_, _≤_, _<_}
 use native.Mathlib.Nat.{zero-add}
+use native.Mathlib.Numerals.{add-one}
 use native.Mathlib.Omega.{arith}
 use mir.Val.{boolByte}
-use borrow.Author.Tests.{eqb-true, eqb-false}
-use lib.Dec.{eqb}
-use lib.ListN.{getD, set, replicate, length-set}
-use lib.Seq.{getD-set-same, getD-set-other}
+use borrow.Author.Tests.{le-leb, lt-leb, ne-eqb}
+use lib.ListN.{length, getD, set}
 use Rattle.machine_state.specs.Memory.{passed}
 use Rattle.runs.specs.Runs.{filled}
 use Rattle.runs.proofs.Filled.{filled-more}
 use Rattle.calls.specs.declared.Call.{Call}
 use Rattle.exposed.specs.Reported.{Says, reported, reportOutcome, verdictOutcome}
-use Rattle.utils.proofs.Bools.{tested}
 use Rattle.exposed.specs.declared.CallEntry.{CallEntry}
 use Rattle.exposed.specs.declared.Report.{Report}
-use Rattle.records.specs.Means.{callMeans}
+use Rattle.records.specs.Decoded.{callOf}
 use Rattle.records.specs.Words.{headerIn}
+use Rattle.records.specs.declared.Header.{Header}
+use Rattle.records.specs.declared.items.SomeCall.the-variants as decoded
 use Rattle.records.specs.declared.Reply.{Reply}
 use Rattle.session.proofs.Replying.{bool-byte}
 use Rattle.session.specs.Replies.{replyOf}
-use Rattle.session.specs.Reports.{push, Lists, placeByte}
+use Rattle.session.specs.Reports.{nothing, calls, listed, whole, placeByte}
 
-getD-push : (n k : ℕ) → getD (replicate n push) k push ≡ push
-getD-push zero k = refl
-getD-push (suc n) zero = refl
-getD-push (suc n) (suc k) = getD-push n k
+-- ---- one header more: a call is listed, and where there is none, none is from there on
+pub listed-more : (l : List ℕ) (k : ℕ) {cs : List CallEntry} {c : Call} → listed l k ≡ calls cs → callOf (headerIn l k) ≡ decoded.Is c
+    → listed l (k + 1) ≡ calls (set cs k (record { call = c }))
+unfolding listed
+listed-more l k e f = rw (add-one, e, f)
 
-pub lists-none : (l : List ℕ) → Lists l 0 (replicate 64 push)
-lists-none l = record { long = refl; told = λ k lt. absurd (omega (arith, lt)); rest = λ k le. getD-push 64 k }
+stays-none : (l : List ℕ) (n : ℕ) → listed l n ≡ nothing → listed l (suc n) ≡ nothing
+unfolding listed
+stays-none l n e = rw e
 
-pub lists-more : {l : List ℕ} {k : ℕ} {cs : List CallEntry} (c : Call) → Lists l k cs → k < 64 → callMeans (headerIn l k) c → Lists l (k + 1) (set cs k (record { call = c }))
-lists-more {l} {k} {cs} c m lt h = record { long = length-set cs k entry ∙ m .long; told = told; rest = rest }
-  where
-    entry : CallEntry
-    entry = record { call = c }
+none-later : (l : List ℕ) (k d : ℕ) → listed l k ≡ nothing → listed l (k + d) ≡ nothing
+none-later l k zero e = let z : k + 0 ≡ k = omega arith in ap (λ (j : ℕ). listed l j) z ∙ e
+none-later l k (suc d) e =
+    let s : k + suc d ≡ suc (k + d) = omega arith in ap (λ (j : ℕ). listed l j) s ∙ stays-none l (k + d) (none-later l k d e)
 
-    here : getD (set cs k entry) k push ≡ entry
-    here = getD-set-same cs k entry push (omega (arith, lt, m .long))
+pub listed-none : (l : List ℕ) (k n : ℕ) {cs : List CallEntry} → listed l k ≡ calls cs → callOf (headerIn l k) ≡ decoded.Malformed → k < n
+    → listed l n ≡ nothing
+unfolding listed
+listed-none l k n e f lt =
+    let z : n ≡ suc k + (n - suc k) = omega (arith, lt) in
+    let here : listed l (suc k) ≡ nothing = rw (e, f) in
+    ap (λ (j : ℕ). listed l j) z ∙ none-later l (suc k) (n - suc k) here
 
-    told : (j : ℕ) → j < k + 1 → callMeans (headerIn l j) (getD (set cs k entry) j push .call)
-    told j jlt = go (tested (eqb j k))
-      where
-        go : (eqb j k ≡ true) ⊎ (eqb j k ≡ false) → callMeans (headerIn l j) (getD (set cs k entry) j push .call)
-        go (inl t) = rw (eqb-true j k t, here) h
-        go (inr f) = let ne = eqb-false j k f in rw (getD-set-other cs k j entry push ne) (m .told j (omega (arith, jlt, ne)))
+-- ---- a block is whole, or is not
+module _ (h : Header) (l : List ℕ) where
+  pub too-many : 64 < h .length / 128 → whole h l ≡ false
+  too-many a = rw (lt-leb (h .length / 128) 64 a)
 
-    rest : (j : ℕ) → k + 1 ≤ j → getD (set cs k entry) j push ≡ push
-    rest j le = getD-set-other cs k j entry push (λ e. omega (arith, le, e)) ∙ m .rest j (omega (arith, le))
+  pub broken : h .length / 128 ≤ 64 → (h .length % 128 ≡ 0 → ⊥) → whole h l ≡ false
+  broken a b = rw (le-leb (h .length / 128) 64 a, ne-eqb (h .length % 128) 0 b)
+
+  pub too-short : h .length / 128 ≤ 64 → h .length % 128 ≡ 0 → length l < 182 → whole h l ≡ false
+  too-short a b d = rw (le-leb (h .length / 128) 64 a, b, lt-leb 182 (length l) d)
+
+  pub is-whole : h .length / 128 ≤ 64 → h .length % 128 ≡ 0 → 182 ≤ length l → whole h l ≡ true
+  is-whole a b d = rw (le-leb (h .length / 128) 64 a, b, le-leb 182 (length l) d)
 
 -- what the report says is what is answered
 pub report-reply : {r : Reply} (p : Report) (cs : List CallEntry) (n : ℕ) → reportOutcome p ≡ reported cs n → r ≡ replyOf (passed (verdictOutcome (p .verdict))) 182

@@ -1,7 +1,9 @@
 -- Kinds 16 to 18 (docs/FORMAT.md): size selection, one-argument and two-argument access of an arguments record.
+use mathlib.Core.Bool.{cond}
 use mathlib.Core.List.{List, [], _∷_, _++_, map}
 use mathlib.Core.Path.{_≡_}
 use Prim.Native.Nat.{ℕ}
+use lib.Dec.{eqb}
 use Rattle.utils.specs.Outcome.{Outcome, refuses}
 use Rattle.instruction_set.specs.Arguments.{selectedSize, oneArgument, twoArguments}
 use Rattle.instruction_set.specs.declared.ArgumentSize.{ArgumentSize}
@@ -9,11 +11,11 @@ use Rattle.instruction_set.specs.declared.InstructionArgument.{InstructionArgum
 use Rattle.instruction_set.specs.declared.InstructionArguments.{InstructionArguments}
 use Rattle.machine_state.specs.Answers.{Value, word}
 use Rattle.records.specs.Answers.{operandWords}
-use Rattle.records.specs.Means.{ArgumentsMean}
+use Rattle.records.specs.Decoded.{withArguments, argumentsAt}
 use Rattle.numbers.specs.Numbers.{sizeNumber}
 use Rattle.records.specs.declared.Header.{Header}
 use Rattle.records.specs.declared.Reply.{Reply}
-use Rattle.session.specs.Replies.{replyOf, noReply, WordsGiven}
+use Rattle.session.specs.Replies.{replyOf, NoRecord, WordsGiven}
 
 -- "a size is its number"
 abbrev pub numbered : Outcome ArgumentSize → Outcome Value
@@ -31,8 +33,12 @@ OperandsGiven o l r l′ = pick (o .values)
     pick [] = (r ≡ replyOf (refuses (o .number)) 0) × (l′ ≡ l)
     pick (a ∷ rest) = WordsGiven (wordsOf (a ∷ rest)) l r l′
 
-pub data Accesses (h : Header) (l : List ℕ) (r : Reply) (l′ : List ℕ) : Type 0 where
-  none : r ≡ noReply → l′ ≡ l → Accesses h l r l′
-  size : (a : InstructionArguments) → h .kind ≡ 16 → ArgumentsMean h (h .b) (h .c) a → r ≡ replyOf (numbered (selectedSize a)) 0 → l′ ≡ l → Accesses h l r l′
-  one : (a : InstructionArguments) → h .kind ≡ 17 → ArgumentsMean h (h .b) (h .c) a → OperandsGiven (oneArgument a) l r l′ → Accesses h l r l′
-  two : (a : InstructionArguments) → h .kind ≡ 18 → ArgumentsMean h (h .b) (h .c) a → OperandsGiven (twoArguments a) l r l′ → Accesses h l r l′
+-- what kinds 16, 17 and 18 ask of the arguments record of a header
+abbrev pub Accessed : ℕ → InstructionArguments → List ℕ → Reply → List ℕ → Type 0
+Accessed k a l r l′ =
+    cond (eqb k 16) ((r ≡ replyOf (numbered (selectedSize a)) 0) × (l′ ≡ l))
+    (cond (eqb k 17) (OperandsGiven (oneArgument a) l r l′)
+    (cond (eqb k 18) (OperandsGiven (twoArguments a) l r l′) (NoRecord l r l′)))
+
+unfoldable pub Accesses : Header → List ℕ → Reply → List ℕ → Type 0
+Accesses h l r l′ = withArguments (NoRecord l r l′) (argumentsAt h (h .b) (h .c)) (λ a. Accessed (h .kind) a l r l′)

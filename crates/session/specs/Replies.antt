@@ -24,9 +24,13 @@ valueOf (truth b ∷ vs) = cond b 1 0
 abbrev pub replyOf : Outcome Value → ℕ → Reply
 replyOf o g = record { formed = true; refusal = o .number; shape = shapeOf (o .values); value = valueOf (o .values); given = g }
 
--- a record that is none has no answer
+-- a record that is none has no answer, and leaves the lent bytes
 abbrev pub noReply : Reply
 noReply = record { formed = false; refusal = 0; shape = 0; value = 0; given = 0 }
+
+pub record NoRecord (l : List ℕ) (r : Reply) (l′ : List ℕ) : Type 0 where
+  pub reply : r ≡ noReply
+  pub bytes : l′ ≡ l
 
 -- f 0, f 1, .. go to the n places of d from at on, and g of the lent bytes follow the answer; where there is no room, the record is none
 pub record Given (ok : Bool) (g : ℕ) (d : List ℕ) (at : ℕ) (f : ℕ → ℕ) (n : ℕ) (r : Reply) (d′ : List ℕ) : Type 0 where

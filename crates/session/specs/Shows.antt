@@ -7,12 +7,12 @@ use lib.Dec.{ltb}
 use lib.ListN.{length, set, replicate}
 use Rattle.utils.specs.Outcome.{refuses}
 use Rattle.store.specs.View.{viewOf}
-use Rattle.store.specs.Store.{Store, storeOf}
+use Rattle.store.specs.Store.{Store}
 use Rattle.machine_state.specs.declared.MachineState.{MachineState}
 use Rattle.runs.specs.Runs.{room, laneIn, bytesOf}
 use Rattle.records.specs.declared.Header.{Header}
 use Rattle.records.specs.declared.Reply.{Reply}
-use Rattle.session.specs.Replies.{replyOf, noReply, Given, WordsGiven}
+use Rattle.session.specs.Replies.{replyOf, NoRecord, Given}
 
 -- "The lent page of zeros has as many bytes as word 7 says; its last is word 10, the others 0"
 abbrev pub zerosOf : ℕ → ℕ → List ℕ
@@ -38,9 +38,8 @@ MachineGiven m l r l′ = Given (room (length l) 0 200) 200 l 0 (machineByte m) 
 abbrev pub Loaded : ℕ → List ℕ → List ℕ → Reply → List ℕ → Type 0
 Loaded at l b r b′ = Given (room (length l) 0 (length l) && room (length b) at (length l)) 0 b at (bytesOf l 0) (length l) r b′
 
-pub data Shows (h : Header) (s : Store) (l : List ℕ) (r : Reply) (s′ : Store) (l′ : List ℕ) : Type 0 where
-  none : r ≡ noReply → s′ ≡ s → l′ ≡ l → Shows h s l r s′ l′
-  view : h .kind ≡ 20 → s′ ≡ s → ViewGiven (viewOf s (zerosOf (h .first .base) (h .first .value)) (h .a)) (h .b) (h .c) l r l′ → Shows h s l r s′ l′
-  load : (b : List ℕ) → h .kind ≡ 25 → Loaded (h .a) l (s .bytes) r b → s′ ≡ storeOf (s .dir) b (s .used) → l′ ≡ l → Shows h s l r s′ l′
-  directory : h .kind ≡ 27 → s′ ≡ s → WordsGiven (s .dir) l r l′ → Shows h s l r s′ l′
-  bytes : h .kind ≡ 28 → s′ ≡ s → BytesGiven (s .bytes) (h .a) (h .b) l r l′ → Shows h s l r s′ l′
+-- "The lent page of zeros has as many bytes as word 7 says (at most 4,097)"
+abbrev pub PageGiven : Header → Store → List ℕ → Reply → List ℕ → Type 0
+PageGiven h s l r l′ =
+    cond (ltb 4097 (h .first .base)) (NoRecord l r l′)
+    (ViewGiven (viewOf s (zerosOf (h .first .base) (h .first .value)) (h .a)) (h .b) (h .c) l r l′)

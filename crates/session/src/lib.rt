@@ -15,7 +15,7 @@ ghost use mathlib.Core.Path.{_≡_};
 ghost use Rattle.store.specs.Store.{storeOf};
 ghost use Rattle.utils.specs.Outcome.{gives};
 ghost use Rattle.session.specs.Replies.{replyOf, noReply};
-ghost use Rattle.session.specs.CarriesOut.{CarriesOut, Tells, carriedBy, still as stays};
+ghost use Rattle.session.specs.CarriesOut.{CarriesOut, Called, Tells, Says, carriedBy, still as stays};
 
 mod replies; // replies.rt: what an answer says, in numbers
 mod access; // access.rt: size selection and access of an arguments record
@@ -94,7 +94,7 @@ fn tabled(
     bytes: &mut [u8],
     used: usize,
 ) -> Carried
-    ensures { λ r. ⌜ CarriesOut header machine (storeOf (now (dir .entry)) (now (bytes .entry)) used) (now (lent .entry))
+    ensures { λ r. ⌜ Called header machine (storeOf (now (dir .entry)) (now (bytes .entry)) used) (now (lent .entry))
         r (storeOf (now (dir .exit)) (now (bytes .exit)) (r .used)) (now (lent .exit)) ⌝ }
 {
     let n = lent.len();
@@ -105,17 +105,37 @@ fn tabled(
     }
 }
 
-// A record that leaves the machine and the store.
-fn told(header: Header, machine: MachineState, lent: &mut [u8]) -> Reply
-    ensures { λ r. ⌜ Tells header machine (now (lent .entry)) r (now (lent .exit)) ⌝ }
+// An access of an arguments record, or a text: kinds 16 to 18 and 32 to 37, which leave the store too.
+fn said(header: Header, machine: MachineState, lent: &mut [u8]) -> Reply
+    ensures { λ r. ⌜ Says header machine (now (lent .entry)) r (now (lent .exit)) ⌝ }
+{
+    if header.kind < 20 {
+        return access::access(header, lent);
+    }
+    texts::text(header, machine, lent)
+}
+
+// A record that leaves the machine and the count.
+fn told(
+    header: Header,
+    machine: MachineState,
+    lent: &mut [u8],
+    dir: &[u64],
+    bytes: &mut [u8],
+    used: usize,
+) -> Reply
+    ensures { λ r. ⌜ Tells header machine (storeOf (now (dir .entry)) (now (bytes .entry)) used) (now (lent .entry))
+        r (storeOf (now (dir .entry)) (now (bytes .exit)) used) (now (lent .exit)) ⌝ }
 {
     let kind = header.kind;
     match kind {
-        16 | 17 | 18 => access::access(header, lent),
+        20 => show::view(header, lent, dir, bytes, used),
+        25 => show::load(header.a, lent, bytes),
         26 => show::machine_words(machine, lent),
-        32 | 33 | 34 | 35 | 36 | 37 => texts::text(header, machine, lent),
+        27 => show::words(dir, lent),
+        28 => show::part(bytes, header.a, header.b, lent),
         40 => report::exposed_report(header, lent),
-        _ => none(),
+        _ => said(header, machine, lent),
     }
 }
 
@@ -131,13 +151,11 @@ pub fn carry_out(
     ensures { λ r. ⌜ CarriesOut header machine (storeOf (now (dir .entry)) (now (bytes .entry)) used) (now (lent .entry))
         r (storeOf (now (dir .exit)) (now (bytes .exit)) (r .used)) (now (lent .exit)) ⌝ }
 {
-    let kind = header.kind;
-    match kind {
-        1 | 2 | 3 | 4 | 5 | 6 | 7 | 8 | 9 | 10 => {
-            tabled(header, machine, lent, dir, bytes, used)
-        }
-        11 => answered(machine.mem_read_byte(header.a, dir, bytes, used), 0),
-        20 | 25 | 27 | 28 => still(machine, used, show::show(header, lent, dir, bytes, used)),
-        _ => still(machine, used, told(header, machine, lent)),
+    if header.kind < 11 {
+        return tabled(header, machine, lent, dir, bytes, used);
     }
+    if header.kind == 11 {
+        return answered(machine.mem_read_byte(header.a, dir, bytes, used), 0);
+    }
+    still(machine, used, told(header, machine, lent, dir, bytes, used))
 }

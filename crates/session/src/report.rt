@@ -40,7 +40,6 @@ fn put_places(lent: &mut [u8], places: [bool; 182])
 
 // The report of the calls in the block, at most 64, with the count that the header states.
 pub(crate) fn exposed_report(header: Header, lent: &mut [u8]) -> Reply
-    requires { ⌜ header .kind ≡ 40 ⌝ }
     ensures { λ r. ⌜ Reports header (now (lent .entry)) r (now (lent .exit)) ⌝ }
 {
     if 64 < header.length / 128 {

@@ -11,7 +11,7 @@ ghost use lib.ListN.{length, set, take};
 ghost use Rattle.store.specs.View.{viewOf};
 ghost use Rattle.store.specs.Store.{storeOf};
 ghost use Rattle.session.specs.Replies.{WordsGiven};
-ghost use Rattle.session.specs.Shows.{Shows, BytesGiven, ViewGiven, MachineGiven, Loaded};
+ghost use Rattle.session.specs.Shows.{PageGiven, BytesGiven, ViewGiven, MachineGiven, Loaded};
 
 // Words, low byte first.
 pub(crate) fn words(words: &[u64], lent: &mut [u8]) -> Reply
@@ -24,7 +24,7 @@ pub(crate) fn words(words: &[u64], lent: &mut [u8]) -> Reply
 }
 
 // n bytes from `from` on.
-fn part(bytes: &[u8], from: u64, n: u64, lent: &mut [u8]) -> Reply
+pub(crate) fn part(bytes: &[u8], from: u64, n: u64, lent: &mut [u8]) -> Reply
     ensures { λ r. ⌜ BytesGiven (now (bytes .entry)) from n (now (lent .entry)) r (now (lent .exit)) ⌝ }
 {
     if !runs::copy(lent, 0, bytes, from as usize, n as usize) {
@@ -48,7 +48,7 @@ pub(crate) fn machine_words(machine: MachineState, lent: &mut [u8]) -> Reply
 }
 
 // The lent bytes go into the store's, from `at` on.
-fn load(at: u64, lent: &[u8], bytes: &mut [u8]) -> Reply
+pub(crate) fn load(at: u64, lent: &[u8], bytes: &mut [u8]) -> Reply
     ensures { λ r. ⌜ Loaded at (now (lent .entry)) (now (bytes .entry)) r (now (bytes .exit)) ⌝ }
 {
     if !runs::copy(bytes, at as usize, lent, 0, lent.len()) {
@@ -95,10 +95,8 @@ fn view_with<'a>(
 }
 
 // The part of a page's view that the header asks for.
-fn view(header: Header, lent: &mut [u8], dir: &[u64], bytes: &[u8], used: usize) -> Reply
-    requires { ⌜ header .kind ≡ 20 ⌝ }
-    ensures { λ r. ⌜ Shows header (storeOf (now (dir .entry)) (now (bytes .entry)) used) (now (lent .entry))
-        r (storeOf (now (dir .entry)) (now (bytes .entry)) used) (now (lent .exit)) ⌝ }
+pub(crate) fn view(header: Header, lent: &mut [u8], dir: &[u64], bytes: &[u8], used: usize) -> Reply
+    ensures { λ r. ⌜ PageGiven header (storeOf (now (dir .entry)) (now (bytes .entry)) used) (now (lent .entry)) r (now (lent .exit)) ⌝ }
 {
     let page = header.first;
     let z = page.base as usize;
@@ -108,25 +106,4 @@ fn view(header: Header, lent: &mut [u8], dir: &[u64], bytes: &[u8], used: usize)
     let mut zeros = [0u8; 4097];
     put_last(&mut zeros, z, (page.value % 256) as u8);
     view_with(header, &zeros, z, lent, dir, bytes, used)
-}
-
-// What is shown or loaded: kinds 20, 25, 27 and 28.
-pub(crate) fn show(
-    header: Header,
-    lent: &mut [u8],
-    dir: &[u64],
-    bytes: &mut [u8],
-    used: usize,
-) -> Reply
-    ensures { λ r. ⌜ Shows header (storeOf (now (dir .entry)) (now (bytes .entry)) used) (now (lent .entry))
-        r (storeOf (now (dir .entry)) (now (bytes .exit)) used) (now (lent .exit)) ⌝ }
-{
-    let kind = header.kind;
-    match kind {
-        20 => view(header, lent, dir, bytes, used),
-        25 => load(header.a, lent, bytes),
-        27 => words(dir, lent),
-        28 => part(bytes, header.a, header.b, lent),
-        _ => none(),
-    }
 }

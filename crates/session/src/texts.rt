@@ -1,5 +1,4 @@
-// The texts: a text's length, or its refusal; the whole buffer follows. Each takes the machine, since one contract, `Texts`, is that of all; only the
-// state's text shows it.
+// The texts: a text's length, or its refusal; the whole buffer follows.
 use super::replies::none;
 use super::replies::refused;
 use super::replies::value;
@@ -14,9 +13,10 @@ use records::SomeEvent;
 use text::Text;
 ghost use mathlib.Core.Path.{_≡_};
 ghost use Rattle.machine_state.specs.Memory.{passed};
-ghost use Rattle.text.specs.Answers.{numberOf as textNumber, textOutcome};
+ghost use Rattle.text.specs.Answers.{numberOf as textNumber, textOutcome, says};
+ghost use Rattle.state_lines.specs.Lines.{stateText};
 ghost use Rattle.session.specs.Replies.{replyOf};
-ghost use Rattle.session.specs.Texts.{Texts};
+ghost use Rattle.session.specs.Texts.{Texts, asked, asks, operandAsked, argumentsAsked, eventAsked, plainAsked, registerAsked};
 
 fn refusal(why: text::Refusal) -> u64
     ensures { λ n. ⌜ n ≡ textNumber why ⌝ }
@@ -37,9 +37,8 @@ fn reply(text: Text, given: usize) -> Reply
     }
 }
 
-fn operand(header: Header, machine: MachineState, lent: &mut [u8]) -> Reply
-    requires { ⌜ header .kind ≡ 32 ⌝ }
-    ensures { λ r. ⌜ Texts header machine (now (lent .entry)) r (now (lent .exit)) ⌝ }
+fn operand(header: Header, lent: &mut [u8]) -> Reply
+    ensures { λ r. ⌜ Texts (operandAsked header) (now (lent .entry)) r (now (lent .exit)) ⌝ }
 {
     let n = lent.len();
     let given = records::given_operand(header.first);
@@ -54,9 +53,8 @@ fn operand(header: Header, machine: MachineState, lent: &mut [u8]) -> Reply
 }
 
 // The repeats do not show in the text: b and c are the buffer.
-fn arguments(header: Header, machine: MachineState, lent: &mut [u8]) -> Reply
-    requires { ⌜ header .kind ≡ 33 ⌝ }
-    ensures { λ r. ⌜ Texts header machine (now (lent .entry)) r (now (lent .exit)) ⌝ }
+fn arguments(header: Header, lent: &mut [u8]) -> Reply
+    ensures { λ r. ⌜ Texts (argumentsAsked header) (now (lent .entry)) r (now (lent .exit)) ⌝ }
 {
     let n = lent.len();
     let built = records::decode_arguments(header, 0, 0);
@@ -66,17 +64,15 @@ fn arguments(header: Header, machine: MachineState, lent: &mut [u8]) -> Reply
     }
 }
 
-fn state(header: Header, machine: MachineState, lent: &mut [u8]) -> Reply
-    requires { ⌜ header .kind ≡ 34 ⌝ }
-    ensures { λ r. ⌜ Texts header machine (now (lent .entry)) r (now (lent .exit)) ⌝ }
+fn state(machine: MachineState, lent: &mut [u8]) -> Reply
+    ensures { λ r. ⌜ Texts (asks (says (stateText machine))) (now (lent .entry)) r (now (lent .exit)) ⌝ }
 {
     let n = lent.len();
     reply(text::state_text(machine, lent), n)
 }
 
-fn event(header: Header, machine: MachineState, lent: &mut [u8]) -> Reply
-    requires { ⌜ header .kind ≡ 35 ⌝ }
-    ensures { λ r. ⌜ Texts header machine (now (lent .entry)) r (now (lent .exit)) ⌝ }
+fn event(header: Header, lent: &mut [u8]) -> Reply
+    ensures { λ r. ⌜ Texts (eventAsked header) (now (lent .entry)) r (now (lent .exit)) ⌝ }
 {
     let n = lent.len();
     let found = records::decode_event(header.first);
@@ -86,9 +82,8 @@ fn event(header: Header, machine: MachineState, lent: &mut [u8]) -> Reply
     }
 }
 
-fn plain(header: Header, machine: MachineState, lent: &mut [u8]) -> Reply
-    requires { ⌜ header .kind ≡ 36 ⌝ }
-    ensures { λ r. ⌜ Texts header machine (now (lent .entry)) r (now (lent .exit)) ⌝ }
+fn plain(header: Header, lent: &mut [u8]) -> Reply
+    ensures { λ r. ⌜ Texts (plainAsked header) (now (lent .entry)) r (now (lent .exit)) ⌝ }
 {
     let n = lent.len();
     let given = records::given_operand(header.first);
@@ -98,33 +93,33 @@ fn plain(header: Header, machine: MachineState, lent: &mut [u8]) -> Reply
     }
 }
 
-fn register(header: Header, machine: MachineState, lent: &mut [u8]) -> Reply
-    requires { ⌜ header .kind ≡ 37 ⌝ }
-    ensures { λ r. ⌜ Texts header machine (now (lent .entry)) r (now (lent .exit)) ⌝ }
+fn register(header: Header, lent: &mut [u8]) -> Reply
+    ensures { λ r. ⌜ Texts (registerAsked header) (now (lent .entry)) r (now (lent .exit)) ⌝ }
 {
     let n = lent.len();
     let given = records::given_operand(header.first);
     let SomeArgument::Present(argument) = given else {
         return none();
     };
-    let InstructionArgument::Register { register } = argument else {
-        return none();
-    };
-    reply(text::register_text(register, lent), n)
+    match argument {
+        InstructionArgument::Immediate { .. } => none(),
+        InstructionArgument::Register { register } => reply(text::register_text(register, lent), n),
+        InstructionArgument::EffectiveAddress { .. } => none(),
+    }
 }
 
 // Whose text a record asks for: kinds 32 to 37.
 pub(crate) fn text(header: Header, machine: MachineState, lent: &mut [u8]) -> Reply
-    ensures { λ r. ⌜ Texts header machine (now (lent .entry)) r (now (lent .exit)) ⌝ }
+    ensures { λ r. ⌜ Texts (asked header machine) (now (lent .entry)) r (now (lent .exit)) ⌝ }
 {
     let kind = header.kind;
     match kind {
-        32 => operand(header, machine, lent),
-        33 => arguments(header, machine, lent),
-        34 => state(header, machine, lent),
-        35 => event(header, machine, lent),
-        36 => plain(header, machine, lent),
-        37 => register(header, machine, lent),
+        32 => operand(header, lent),
+        33 => arguments(header, lent),
+        34 => state(machine, lent),
+        35 => event(header, lent),
+        36 => plain(header, lent),
+        37 => register(header, lent),
         _ => none(),
     }
 }

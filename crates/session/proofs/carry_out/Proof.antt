@@ -1,30 +1,45 @@
--- `carry_out` carries out a record: each arm is a case of `CarriesOut`. Assumes nothing.
-use Rattle.session.proofs.Carrying.{told-still, beside-left, shown-still}
-use Rattle.session.specs.CarriesOut.{byte}
+-- `carry_out` carries out a record: each way out is a case of `CarriesOut`. Assumes nothing.
+use mathlib.Core.Path.{_≡_}
+use native.Mathlib.Omega.{arith}
+use borrow.Author.Tests.{lt-ltb, le-ltb, ne-eqb}
+use Rattle.session.specs.CarriesOut.{CarriesOut}
+use Rattle.session.proofs.Carrying.{told-still, beside-left}
 use borrow.Author.Needs.{needs}
 use Rattle.session.proofs.carry_out.Statement.{statement}
 use Rattle.session.proofs.carry_out.Tie as tie
 
 returns : tie.Need-returns
+unfolding CarriesOut
 returns c =
-    let at-match = c .before .before .before .before in
-    byte (at-match .match .keys1)
-    (beside-left (c .before .mem-read-byte .result) (c .before .mem-read-byte .ensures) (c .answered .ensures))
+    let tabled = c .before .before .before .before .before .before in
+    let if1 = tabled .before .before .before .before in
+    let start = if1 .before .before .before .before .before in
+    rw (lt-ltb (start .args .header .kind) 11 (if1 .if1 .taken)) (tabled .tabled .ensures)
+
+returns-2 : tie.Need-returns-2
+unfolding CarriesOut
+returns-2 c =
+    let mem-read-byte = c .before in
+    let if2 = mem-read-byte .before .before .before in
+    let start = if2 .before .before .before .before .before .before .before in
+    let e : start .args .header .kind ≡ 11 = omega (arith, if2 .if2 .taken) in
+    rw e
+    (beside-left (mem-read-byte .mem-read-byte .result) (mem-read-byte .mem-read-byte .ensures) (c .answered .ensures))
 
 returns-3 : tie.Need-returns-3
+unfolding CarriesOut
 returns-3 c =
-    let told = c .before .before .before in
-    told-still (told .told .result) (told .told .ensures) (c .still .ensures)
-
-returns-4 : tie.Need-returns-4
-returns-4 c =
-    let show = c .before .before .before .before .before in
-    shown-still (show .show .result) (show .show .ensures) (c .still2 .ensures)
+    let told = c .before .before .before .before .before in
+    let if2 = told .before .before .before .before in
+    let if1 = if2 .before .before in
+    let start = if1 .before .before .before .before .before in
+    let kind = start .args .header .kind in
+    rw (le-ltb kind 11 (if1 .if1 .left), ne-eqb kind 11 (if2 .if2 .left))
+    (told-still (told .told .result) (told .told .ensures) (c .still .ensures))
 
 pub carry-out-spec : {M : Type 1} → statement M
 carry-out-spec =
     tie.close
-    (tie.spec (λ c κs. search needs) (λ c κs. search needs) (λ c κs. search needs) (λ c κs. search needs)
-    (λ c κs. search needs) (λ c κs. search needs) (λ c κs. search needs) (λ c. search needs) (λ c. search needs) returns
-    (λ c. search needs) (λ c. search needs) (λ c. search needs) (λ c. search needs) (λ c. search needs) returns-3
-    (λ c. search needs) (λ c. search needs) (λ c. search needs) returns-4)
+    (tie.spec (λ c κs. search needs) (λ c. search needs) (λ c. search needs) (λ c. search needs) returns
+    (λ c κs. search needs) (λ c κs. search needs) (λ c. search needs) (λ c. search needs) returns-2
+    (λ c κs. search needs) (λ c κs. search needs) (λ c. search needs) (λ c. search needs) (λ c. search needs) returns-3)

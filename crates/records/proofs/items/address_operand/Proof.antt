@@ -1,11 +1,67 @@
--- `address_operand` finds each part of an address that its words mean. Assumes nothing.
+-- `address_operand` gives `addressOperand`: each way out is what is found of the parts, one after the other; a displacement that
+-- was found fits 32 bits. Assumes nothing.
+use mathlib.Core.Path.{sym}
 use mir.Syntax.{w32}
 use mir.ValLaws.{toZ-ofZ}
+use Rattle.records.specs.Decoded.{addressOperand}
 use borrow.Author.Needs.{needs}
 use Rattle.records.proofs.items.address_operand.Statement.{statement}
 use Rattle.records.proofs.items.address_operand.Tie as tie
 
+returns : tie.Need-returns
+unfolding addressOperand
+returns c =
+    let part-at = c .before .before in
+    rw (sym (part-at .part-at .ensures), c .enum-told .given .1)
+
+returns-2 : tie.Need-returns-2
+unfolding addressOperand
+returns-2 c =
+    let part-at2 = c .before .before in
+    let first = part-at2 .before .before in
+    let part-at = first .before .before in
+    rw (sym (part-at .part-at .ensures), first .first .given .1, sym (part-at2 .part-at2 .ensures), c .enum-told2 .given .1)
+
+returns-3 : tie.Need-returns-3
+unfolding addressOperand
+returns-3 c =
+    let scale-at = c .before .before in
+    let second = scale-at .before .before in
+    let part-at2 = second .before .before in
+    let first = part-at2 .before .before in
+    let part-at = first .before .before in
+    rw (
+      sym (part-at .part-at .ensures),
+      first .first .given .1,
+      sym (part-at2 .part-at2 .ensures),
+      second .second .given .1,
+      sym (scale-at .scale-at .ensures),
+      c .enum-told3 .given .1,
+    )
+
+returns-4 : tie.Need-returns-4
+unfolding addressOperand
+returns-4 c =
+    let displacement = c .before .before in
+    let factor = displacement .before .before in
+    let scale-at = factor .before .before in
+    let second = scale-at .before .before in
+    let part-at2 = second .before .before in
+    let first = part-at2 .before .before in
+    let part-at = first .before .before in
+    rw (
+      sym (part-at .part-at .ensures),
+      first .first .given .1,
+      sym (part-at2 .part-at2 .ensures),
+      second .second .given .1,
+      sym (scale-at .scale-at .ensures),
+      factor .factor .given .1,
+      sym (displacement .displacement .ensures),
+      c .enum-told4 .given .1,
+    )
+
 returns-5 : tie.Need-returns-5
+unfolding addressOperand
 returns-5 c =
     let displacement = c .before .before .before in
     let factor = displacement .before .before in
@@ -14,19 +70,21 @@ returns-5 c =
     let part-at2 = second .before .before in
     let first = part-at2 .before .before in
     let part-at = first .before .before in
-    let start = part-at .before in (
-      start .pre,
-      rw (first .first .given .1) at (part-at .part-at .ensures),
-      rw (second .second .given .1) at (part-at2 .part-at2 .ensures),
-      rw (factor .factor .given .1) at (scale-at .scale-at .ensures),
-      (let far = rw (c .before .far .given .1) at (displacement .displacement .ensures) in
-          rw (toZ-ofZ w32 _ (far .1)) (far .0)),
+    rw (
+      sym (part-at .part-at .ensures),
+      first .first .given .1,
+      sym (part-at2 .part-at2 .ensures),
+      second .second .given .1,
+      sym (scale-at .scale-at .ensures),
+      factor .factor .given .1,
+      sym (displacement .displacement .ensures),
+      c .before .far .given .1,
+      toZ-ofZ w32 (c .before .far .given .0 .0) (record { sfits = c .known-told4 .given .0 .1 }),
     )
 
 pub address-operand-spec : {M : Type 1} → statement M
 address-operand-spec =
     tie.close
-    (tie.spec (λ c κs. search needs) (λ c. search needs) (λ c. search needs) (λ c. search needs) (λ c κs. search needs)
-    (λ c. search needs) (λ c. search needs) (λ c. search needs) (λ c κs. search needs) (λ c. search needs)
-    (λ c. search needs) (λ c. search needs) (λ c κs. search needs) (λ c. search needs) (λ c. search needs)
-    (λ c. search needs) returns-5)
+    (tie.spec (λ c κs. search needs) (λ c. search needs) (λ c. search needs) returns (λ c κs. search needs)
+    (λ c. search needs) (λ c. search needs) returns-2 (λ c κs. search needs) (λ c. search needs) (λ c. search needs)
+    returns-3 (λ c κs. search needs) (λ c. search needs) (λ c. search needs) returns-4 returns-5)

@@ -1,18 +1,40 @@
--- `part_at` finds what its word means: a register's number plus 1, or 0. Assumes nothing.
+-- `part_at` gives `partAt`: 0 is absent, and any other word the register at its number less 1. Assumes nothing.
+use mathlib.Core.Path.{_≡_, sym}
 use native.Mathlib.Omega.{arith}
+use Rattle.records.specs.Decoded.{partAt}
+use Rattle.records.proofs.Exact.{part-some}
 use borrow.Author.Needs.{needs}
 use Rattle.records.proofs.items.part_at.Statement.{statement}
 use Rattle.records.proofs.items.part_at.Tie as tie
+
+returns : tie.Need-returns
+unfolding partAt
+returns c =
+    let e : c .before .args .n ≡ 0 = omega (arith, c .if1 .taken) in
+    rw e
+
+returns-2 : tie.Need-returns-2
+returns-2 c =
+    let register-at = c .before .before in
+    let if1 = register-at .before in
+    rw (
+      sym (part-some (if1 .before .args .n) (omega (arith, if1 .if1 .left))),
+      sym (register-at .register-at .ensures),
+      c .enum-told .given .1,
+    )
 
 returns-3 : tie.Need-returns-3
 returns-3 c =
     let register-at = c .before .before .before in
     let if1 = register-at .before in
-    let e = rw (c .before .found .given .1) at (register-at .register-at .ensures) in
-    omega (arith, e, if1 .if1 .left)
+    rw (
+      sym (part-some (if1 .before .args .n) (omega (arith, if1 .if1 .left))),
+      sym (register-at .register-at .ensures),
+      c .before .found .given .1,
+    )
 
 pub part-at-spec : {M : Type 1} → statement M
 part-at-spec =
     tie.close
-    (tie.spec (λ c. search needs) (λ c. search needs) (λ c κs. search needs) (λ c. search needs) (λ c. search needs)
-    (λ c. search needs) returns-3)
+    (tie.spec returns (λ c. search needs) (λ c κs. search needs) (λ c. search needs) (λ c. search needs) returns-2
+    returns-3)

@@ -1,15 +1,23 @@
--- `test_flag` means its words. Assumes nothing.
+-- `test_flag` gives `testCall`: each way out is what is found of the flag. Assumes nothing.
+use mathlib.Core.Path.{sym}
+use Rattle.records.specs.Decoded.{testCall}
 use borrow.Author.Needs.{needs}
 use Rattle.records.proofs.items.test_flag.Statement.{statement}
 use Rattle.records.proofs.items.test_flag.Tie as tie
 
+returns : tie.Need-returns
+unfolding testCall
+returns c =
+    let flag-at = c .before .before in
+    rw (sym (flag-at .flag-at .ensures), c .enum-told .given .1)
+
 returns-2 : tie.Need-returns-2
+unfolding testCall
 returns-2 c =
     let flag-at = c .before .before .before in
-    let start = flag-at .before in
-    (start .pre, rw (c .before .found .given .1) at (flag-at .flag-at .ensures))
+    rw (sym (flag-at .flag-at .ensures), c .before .found .given .1)
 
 pub test-flag-spec : {M : Type 1} → statement M
 test-flag-spec =
     tie.close
-    (tie.spec (λ c κs. search needs) (λ c. search needs) (λ c. search needs) (λ c. search needs) returns-2)
+    (tie.spec (λ c κs. search needs) (λ c. search needs) (λ c. search needs) returns returns-2)

@@ -1,13 +1,15 @@
--- `view` lends the page of zeros that the header describes. Assumes nothing.
+-- `view` lends the page of zeros that the header describes, if it is no longer than it may be. Assumes nothing.
+use borrow.Author.Tests.{lt-ltb, le-ltb}
+use Rattle.session.proofs.Replying.{no-record}
 use Rattle.session.proofs.Showing.{take-zeros}
-use mathlib.Core.Path.{refl}
-use Rattle.session.specs.Shows.{none, view}
 use borrow.Author.Needs.{needs}
 use Rattle.session.proofs.show.view.Statement.{statement}
 use Rattle.session.proofs.show.view.Tie as tie
 
 returns : tie.Need-returns
-returns c = none (c .none .ensures) refl refl
+returns c =
+    let start = c .before .before .before .before .before .before in
+    rw (lt-ltb 4097 (start .args .header .first .base) (c .before .if1 .taken)) (no-record (c .none .ensures))
 
 returns-2 : tie.Need-returns-2
 returns-2 c =
@@ -15,7 +17,7 @@ returns-2 c =
     let put-last = view-with .before .before .before .before in
     let if1 = put-last .before .before .before in
     let start = if1 .before .before .before .before .before in
-    view (start .pre) refl
+    rw (le-ltb 4097 (start .args .header .first .base) (if1 .if1 .left))
     (rw (put-last .put-last .ensures, take-zeros (start .args .header .first .base) 4097 (if1 .if1 .left))
     at (view-with .view-with .ensures))
 

@@ -1,24 +1,26 @@
--- `event` says the event's line. Assumes nothing.
-use Rattle.session.specs.Texts.{none, event}
-use mathlib.Core.Path.{refl}
-use Rattle.session.proofs.Replying.{texted}
+-- `event` says the event's line, if the words say an event. Assumes nothing.
+use mathlib.Core.Path.{sym}
+use Rattle.session.specs.Texts.{eventAsked}
+use Rattle.session.proofs.Replying.{texted, no-record}
 use borrow.Author.Needs.{needs}
 use Rattle.session.proofs.texts.event.Statement.{statement}
 use Rattle.session.proofs.texts.event.Tie as tie
 
 returns : tie.Need-returns
-returns c = none (c .none .ensures) refl
+unfolding eventAsked
+returns c =
+    let enum-told = c .before in
+    let decode-event = enum-told .before .before in
+    rw (sym (decode-event .decode-event .ensures), enum-told .enum-told .given .1) (no-record (c .none .ensures))
 
 returns-2 : tie.Need-returns-2
+unfolding eventAsked
 returns-2 c =
     let event-text = c .before .before .before in
     let found = event-text .before .before .before in
     let decode-event = found .before .before in
-    let start = decode-event .before .before in
-    texted _
-    (event (found .found .given .0 .0) (start .pre)
-    (rw (found .found .given .1) at (decode-event .decode-event .ensures)) refl)
-    (event-text .event-text .ensures) (c .reply .ensures)
+    rw (sym (decode-event .decode-event .ensures), found .found .given .1)
+    (texted _ (event-text .event-text .ensures) (c .reply .ensures))
 
 pub event-spec : {M : Type 1} → statement M
 event-spec =

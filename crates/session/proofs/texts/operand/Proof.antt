@@ -1,30 +1,48 @@
--- `operand` says the operand's text at the size. Assumes nothing.
-use Rattle.session.specs.Texts.{none, operand}
-use mathlib.Core.Path.{refl}
-use Rattle.session.proofs.Replying.{texted}
+-- `operand` says the operand's text at the size, if the words say both. Assumes nothing.
+use mathlib.Core.Path.{sym}
+use Rattle.session.specs.Texts.{operandAsked}
+use Rattle.session.proofs.Replying.{texted, no-record}
 use borrow.Author.Needs.{needs}
 use Rattle.session.proofs.texts.operand.Statement.{statement}
 use Rattle.session.proofs.texts.operand.Tie as tie
 
 returns : tie.Need-returns
-returns c = none (c .none .ensures) refl
+unfolding operandAsked
+returns c =
+    let enum-told = c .before in
+    let given-operand = enum-told .before .before in
+    rw (sym (given-operand .given-operand .ensures), enum-told .enum-told .given .1) (no-record (c .none .ensures))
 
 returns-2 : tie.Need-returns-2
-returns-2 c = none (c .none2 .ensures) refl
+unfolding operandAsked
+returns-2 c =
+    let enum-told2 = c .before in
+    let size-at = enum-told2 .before .before in
+    let given = size-at .before .before in
+    let given-operand = given .before .before in
+    rw (
+      sym (given-operand .given-operand .ensures),
+      given .given .given .1,
+      sym (size-at .size-at .ensures),
+      enum-told2 .enum-told2 .given .1,
+    )
+    (no-record (c .none2 .ensures))
 
 returns-3 : tie.Need-returns-3
+unfolding operandAsked
 returns-3 c =
     let format = c .before .before .before in
     let found = format .before .before .before in
     let size-at = found .before .before in
     let given = size-at .before .before in
     let given-operand = given .before .before in
-    let start = given-operand .before .before in
-    texted _
-    (operand (given .given .given .0 .0) (found .found .given .0 .0) (start .pre)
-    (rw (given .given .given .1) at (given-operand .given-operand .ensures))
-    (rw (found .found .given .1) at (size-at .size-at .ensures)) refl)
-    (format .format .ensures) (c .reply .ensures)
+    rw (
+      sym (given-operand .given-operand .ensures),
+      given .given .given .1,
+      sym (size-at .size-at .ensures),
+      found .found .given .1,
+    )
+    (texted _ (format .format .ensures) (c .reply .ensures))
 
 pub operand-spec : {M : Type 1} → statement M
 operand-spec =

@@ -1,24 +1,26 @@
--- `plain` says the operand's text. Assumes nothing.
-use Rattle.session.specs.Texts.{none, plain}
-use mathlib.Core.Path.{refl}
-use Rattle.session.proofs.Replying.{texted}
+-- `plain` says the operand's text, if the words give one. Assumes nothing.
+use mathlib.Core.Path.{sym}
+use Rattle.session.specs.Texts.{plainAsked}
+use Rattle.session.proofs.Replying.{texted, no-record}
 use borrow.Author.Needs.{needs}
 use Rattle.session.proofs.texts.plain.Statement.{statement}
 use Rattle.session.proofs.texts.plain.Tie as tie
 
 returns : tie.Need-returns
-returns c = none (c .none .ensures) refl
+unfolding plainAsked
+returns c =
+    let enum-told = c .before in
+    let given-operand = enum-told .before .before in
+    rw (sym (given-operand .given-operand .ensures), enum-told .enum-told .given .1) (no-record (c .none .ensures))
 
 returns-2 : tie.Need-returns-2
+unfolding plainAsked
 returns-2 c =
     let argument-text = c .before .before .before in
     let given = argument-text .before .before .before in
     let given-operand = given .before .before in
-    let start = given-operand .before .before in
-    texted _
-    (plain (given .given .given .0 .0) (start .pre)
-    (rw (given .given .given .1) at (given-operand .given-operand .ensures)) refl)
-    (argument-text .argument-text .ensures) (c .reply .ensures)
+    rw (sym (given-operand .given-operand .ensures), given .given .given .1)
+    (texted _ (argument-text .argument-text .ensures) (c .reply .ensures))
 
 pub plain-spec : {M : Type 1} → statement M
 plain-spec =

@@ -1,6 +1,4 @@
 -- `state` says the state's text. Assumes nothing.
-use Rattle.session.specs.Texts.{state}
-use mathlib.Core.Path.{refl}
 use Rattle.session.proofs.Replying.{texted}
 use borrow.Author.Needs.{needs}
 use Rattle.session.proofs.texts.state.Statement.{statement}
@@ -9,8 +7,7 @@ use Rattle.session.proofs.texts.state.Tie as tie
 returns : tie.Need-returns
 returns c =
     let state-text = c .before .before .before in
-    let start = state-text .before .before .before in
-    texted _ (state (start .pre) refl) (state-text .state-text .ensures) (c .reply .ensures)
+    texted _ (state-text .state-text .ensures) (c .reply .ensures)
 
 pub state-spec : {M : Type 1} → statement M
 state-spec = tie.close (tie.spec (λ c κs. search needs) (λ c κs. search needs) (λ c. search needs) returns)

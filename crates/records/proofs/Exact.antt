@@ -1,0 +1,59 @@
+-- The ways out of the decoders that are not one clause of Decoded: a word that is a number plus 1, and a kind past the last of a list. By
+-- cases, and by counting up from the first kind. Assumes nothing.
+use mathlib.Core.Path.{_≡_, refl, sym}
+use Prim.Native.Nat.{ℕ, zero, suc, _-_, _<_, _≤_}
+use native.Mathlib.Omega.{arith}
+use borrow.Author.Tests.{lt-ltb, le-ltb}
+use lib.ListN.{getD, List·getD-eq-default}
+use Rattle.instruction_set.specs.declared.SomeRegister.the-variants as register
+use Rattle.numbers.specs.Numbers.{registerAt}
+use Rattle.records.specs.Decoded.{withRegister, partAt, byteAt, operandKinds, operandAt, callKinds, callOf, eventKinds, eventAt}
+use Rattle.records.specs.declared.Header.{Header}
+use Rattle.records.specs.declared.OperandWords.{OperandWords}
+use Rattle.records.specs.declared.items.Operand.the-variants as operand
+use Rattle.records.specs.declared.items.Part.the-variants as part
+use Rattle.records.specs.declared.items.SomeCall.the-variants as decoded
+use Rattle.records.specs.declared.items.SomeEvent.the-variants as occurred
+
+-- ---- a number plus 1
+pub part-some : (n : ℕ) → 0 < n → withRegister part.Malformed (registerAt (n - 1)) (λ r. part.Is (register.Present r)) ≡ partAt n
+unfolding partAt
+part-some zero lt = absurd (omega (arith, lt))
+part-some (suc n) lt = let e : suc n - 1 ≡ n = omega arith in rw e
+
+module _ {A : Type 0} (absent none : A) (is : ℕ → A) where
+  pub byte-past : (n : ℕ) → 256 < n → none ≡ byteAt absent none is n
+  byte-past zero lt = absurd (omega (arith, lt))
+  byte-past (suc n) lt = rw (le-ltb n 256 (omega (arith, lt)))
+
+  pub byte-named : (n : ℕ) → 0 < n → n ≤ 256 → is (n - 1) ≡ byteAt absent none is n
+  byte-named zero lt le = absurd (omega (arith, lt))
+  byte-named (suc n) lt le = let e : suc n - 1 ≡ n = omega arith in rw (e, lt-ltb n 256 (omega (arith, le)))
+
+-- ---- kinds past the last
+pub operand-past : (w : OperandWords) → 4 ≤ w .kind → operand.Malformed ≡ operandAt w
+unfolding operandAt
+operand-past w le = sym (List·getD-eq-default (operandKinds w) operand.Malformed le)
+
+pub event-past : (w : OperandWords) → 3 ≤ w .kind → occurred.Malformed ≡ eventAt w
+unfolding eventAt
+event-past w le = sym (List·getD-eq-default (eventKinds w) occurred.Malformed le)
+
+-- n is at least k and is not k
+up : (k : ℕ) {n : ℕ} → k ≤ n → (n ≡ k → ⊥) → suc k ≤ n
+up k le ne = omega (arith, le, ne)
+
+-- kind 0 is no call either
+pub call-past : (h : Header) → (h .kind ≡ 1 → ⊥) → (h .kind ≡ 2 → ⊥) → (h .kind ≡ 3 → ⊥) → (h .kind ≡ 4 → ⊥) → (h .kind ≡ 5 → ⊥)
+    → (h .kind ≡ 6 → ⊥) → (h .kind ≡ 7 → ⊥) → (h .kind ≡ 8 → ⊥) → (h .kind ≡ 9 → ⊥) → (h .kind ≡ 10 → ⊥) → decoded.Malformed ≡ callOf h
+unfolding callOf
+call-past h n1 n2 n3 n4 n5 n6 n7 n8 n9 n10 = go (h .kind) n1 n2 n3 n4 n5 n6 n7 n8 n9 n10
+  where
+    go : (k : ℕ) → (k ≡ 1 → ⊥) → (k ≡ 2 → ⊥) → (k ≡ 3 → ⊥) → (k ≡ 4 → ⊥) → (k ≡ 5 → ⊥)
+        → (k ≡ 6 → ⊥) → (k ≡ 7 → ⊥) → (k ≡ 8 → ⊥) → (k ≡ 9 → ⊥) → (k ≡ 10 → ⊥)
+        → decoded.Malformed ≡ getD (callKinds h) k decoded.Malformed
+    go zero n1 n2 n3 n4 n5 n6 n7 n8 n9 n10 = refl
+    go (suc k) n1 n2 n3 n4 n5 n6 n7 n8 n9 n10 =
+        let six = up 5 (up 4 (up 3 (up 2 (up 1 (omega arith) n1) n2) n3) n4) n5 in
+        let le : 11 ≤ suc k = up 10 (up 9 (up 8 (up 7 (up 6 six n6) n7) n8) n9) n10 in
+        sym (List·getD-eq-default (callKinds h) decoded.Malformed le)
