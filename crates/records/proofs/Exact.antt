@@ -1,5 +1,5 @@
--- The ways out of the decoders that are not one clause of Decoded: a word that is a number plus 1, and a kind past the last of a list. By
--- cases, and by counting up from the first kind. Assumes nothing.
+-- The ways out of the decoders that are not one clause of Decoded: a word that is a number plus 1, a call's kind, and a kind past the last
+-- of a list. By cases, and by counting up from the first kind. Assumes nothing.
 use mathlib.Core.Path.{_≡_, refl, sym}
 use Prim.Native.Nat.{ℕ, zero, suc, _-_, _<_, _≤_}
 use native.Mathlib.Omega.{arith}
@@ -29,6 +29,11 @@ module _ {A : Type 0} (absent none : A) (is : ℕ → A) where
   pub byte-named : (n : ℕ) → 0 < n → n ≤ 256 → is (n - 1) ≡ byteAt absent none is n
   byte-named zero lt le = absurd (omega (arith, lt))
   byte-named (suc n) lt le = let e : suc n - 1 ≡ n = omega arith in rw (e, lt-ltb n 256 (omega (arith, le)))
+
+-- ---- a call by its kind
+pub call-by : (h : Header) (k : ℕ) → h .kind ≡ k → getD (callKinds h) k decoded.Malformed ≡ callOf h
+unfolding callOf
+call-by h k e = rw e
 
 -- ---- kinds past the last
 pub operand-past : (w : OperandWords) → 4 ≤ w .kind → operand.Malformed ≡ operandAt w

@@ -1,4 +1,4 @@
--- What only private functions' contracts cite: an arguments record put together by the Rust's builder, part by part.
+-- An arguments record of its parts; and, for private functions' contracts, the Rust's builder as it is given one part.
 use mathlib.Core.Bool.{Bool}
 use Rattle.instruction_set.specs.Builder.{builder}
 use Rattle.instruction_set.specs.declared.InstructionArguments.{InstructionArguments}

@@ -4,3 +4,4 @@ pub mod Showing
 pub mod Reporting
 pub mod Starting
 pub mod Carrying
+pub mod Fixed

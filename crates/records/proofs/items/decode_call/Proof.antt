@@ -1,49 +1,39 @@
 -- `decode_call` gives `callOf`: each arm is a place of `callKinds`. Assumes nothing.
-use Rattle.records.proofs.Exact.{call-past}
-use Rattle.records.specs.Decoded.{callOf}
+use mathlib.Core.Path.{_∙_}
+use Rattle.records.proofs.Exact.{call-by, call-past}
 use borrow.Author.Needs.{needs}
 use Rattle.records.proofs.items.decode_call.Statement.{statement}
 use Rattle.records.proofs.items.decode_call.Tie as tie
 
 returns : tie.Need-returns
-unfolding callOf
-returns c = rw (c .before .match .keys1) (c .read-operand .ensures)
+returns c = c .read-operand .ensures ∙ call-by (c .before .before .args .header) 1 (c .before .match .keys1)
 
 returns-2 : tie.Need-returns-2
-unfolding callOf
-returns-2 c = rw (c .before .match .keys2) (c .write-operand .ensures)
+returns-2 c = c .write-operand .ensures ∙ call-by (c .before .before .args .header) 2 (c .before .match .keys2)
 
 returns-3 : tie.Need-returns-3
-unfolding callOf
-returns-3 c = rw (c .before .match .keys3) (c .effective-address .ensures)
+returns-3 c = c .effective-address .ensures ∙ call-by (c .before .before .args .header) 3 (c .before .match .keys3)
 
 returns-4 : tie.Need-returns-4
-unfolding callOf
-returns-4 c = rw (c .match .keys4)
+returns-4 c = call-by (c .before .args .header) 4 (c .match .keys4)
 
 returns-5 : tie.Need-returns-5
-unfolding callOf
-returns-5 c = rw (c .match .keys5)
+returns-5 c = call-by (c .before .args .header) 5 (c .match .keys5)
 
 returns-6 : tie.Need-returns-6
-unfolding callOf
-returns-6 c = rw (c .match .keys6)
+returns-6 c = call-by (c .before .args .header) 6 (c .match .keys6)
 
 returns-7 : tie.Need-returns-7
-unfolding callOf
-returns-7 c = rw (c .match .keys7)
+returns-7 c = call-by (c .before .args .header) 7 (c .match .keys7)
 
 returns-8 : tie.Need-returns-8
-unfolding callOf
-returns-8 c = rw (c .before .match .keys8) (c .test-flag .ensures)
+returns-8 c = c .test-flag .ensures ∙ call-by (c .before .before .args .header) 8 (c .before .match .keys8)
 
 returns-9 : tie.Need-returns-9
-unfolding callOf
-returns-9 c = rw (c .before .match .keys9) (c .set-flag .ensures)
+returns-9 c = c .set-flag .ensures ∙ call-by (c .before .before .args .header) 9 (c .before .match .keys9)
 
 returns-10 : tie.Need-returns-10
-unfolding callOf
-returns-10 c = rw (c .before .match .keys10) (c .compute-flags .ensures)
+returns-10 c = c .compute-flags .ensures ∙ call-by (c .before .before .args .header) 10 (c .before .match .keys10)
 
 returns-11 : tie.Need-returns-11
 returns-11 c =

@@ -1,0 +1,166 @@
+-- Two outcomes that meet a record's contract are equal: the words choose the case, and each case is equations. By cases. Assumes nothing.
+use mathlib.Core.Bool.{Bool, true, false, cond}
+use mathlib.Core.List.{List, [], _∷_}
+use mathlib.Core.Path.{_≡_, sym, ap, _∙_}
+use Prim.Native.Nat.{ℕ, _/_}
+use lib.Dec.{eqb, ltb}
+use lib.ListN.{length}
+use Rattle.utils.specs.Outcome.{Outcome}
+use Rattle.instruction_set.specs.Arguments.{oneArgument, twoArguments}
+use Rattle.instruction_set.specs.declared.InstructionArgument.{InstructionArgument}
+use Rattle.instruction_set.specs.declared.InstructionArguments.{InstructionArguments}
+use Rattle.store.specs.Store.{Store, storeOf}
+use Rattle.store.specs.View.{viewOf}
+use Rattle.machine_state.specs.Answers.{After}
+use Rattle.machine_state.specs.declared.MachineState.{MachineState}
+use Rattle.calls.specs.Step.{step}
+use Rattle.records.specs.Decoded.{withArguments, withCall, argumentsAt, callOf}
+use Rattle.records.specs.declared.Header.{Header}
+use Rattle.records.specs.declared.Reply.{Reply}
+use Rattle.records.specs.declared.items.SomeArguments.{SomeArguments}
+use Rattle.records.specs.declared.items.SomeArguments.the-variants as built
+use Rattle.records.specs.declared.items.SomeCall.{SomeCall}
+use Rattle.records.specs.declared.items.SomeCall.the-variants as decoded
+use Rattle.session.specs.Accesses.{OperandsGiven, Accessed, Accesses}
+use Rattle.session.specs.CarriesOut.{Leaves, still, Says, Tells, Stays, NoCall, Called, CarriesOut}
+use Rattle.session.specs.Replies.{NoRecord, Given}
+use Rattle.session.specs.Reports.{Listed, nothing, calls, withCalls, listed, whole, Reported, Reports}
+use Rattle.session.specs.Shows.{zerosOf, ViewGiven, PageGiven}
+use Rattle.session.specs.Texts.{Asked, asks, asked, Texts}
+use Rattle.session.specs.Texts as texts
+use Rattle.session.specs.declared.Carried.{Carried}
+
+-- the same test chooses the same case
+either : (b : Bool) {A A′ B B′ X : Type 0} → (A → A′ → X) → (B → B′ → X) → cond b A B → cond b A′ B′ → X
+either true f g p q = f p q
+either false f g p q = g p q
+
+-- ---- a reply and the lent bytes
+pub record Same (r r′ : Reply) (x y : List ℕ) : Type 0 where
+  pub reply : r ≡ r′
+  pub bytes : x ≡ y
+
+meet : {r r′ a : Reply} {x y b : List ℕ} → r ≡ a → x ≡ b → r′ ≡ a → y ≡ b → Same r r′ x y
+meet p q s t = record { reply = p ∙ sym s; bytes = q ∙ sym t }
+
+none-one : {l x y : List ℕ} {r r′ : Reply} → NoRecord l r x → NoRecord l r′ y → Same r r′ x y
+none-one p q = meet (p .reply) (p .bytes) (q .reply) (q .bytes)
+
+given-one : {ok : Bool} {g at n : ℕ} {d x y : List ℕ} {f : ℕ → ℕ} {r r′ : Reply}
+    → Given ok g d at f n r x → Given ok g d at f n r′ y → Same r r′ x y
+given-one p q = meet (p .reply) (p .bytes) (q .reply) (q .bytes)
+
+module _ (l : List ℕ) {x y : List ℕ} {r r′ : Reply} where
+  operands-one : (o : Outcome InstructionArgument) → OperandsGiven o l r x → OperandsGiven o l r′ y → Same r r′ x y
+  operands-one o = go (o .number) (o .values)
+    where
+      go : (n : ℕ) (vs : List InstructionArgument)
+          → OperandsGiven (record { number = n; values = vs }) l r x
+          → OperandsGiven (record { number = n; values = vs }) l r′ y → Same r r′ x y
+      go n [] p q = meet (p .0) (p .1) (q .0) (q .1)
+      go n (a ∷ rest) p q = given-one p q
+
+  accessed-one : (k : ℕ) (a : InstructionArguments) → Accessed k a l r x → Accessed k a l r′ y → Same r r′ x y
+  accessed-one k a =
+      either (eqb k 16) (λ p q. meet (p .0) (p .1) (q .0) (q .1))
+      (either (eqb k 17) (operands-one (oneArgument a)) (either (eqb k 18) (operands-one (twoArguments a)) none-one))
+
+  accesses-one : (h : Header) → Accesses h l r x → Accesses h l r′ y → Same r r′ x y
+  unfolding Accesses
+  accesses-one h = go (argumentsAt h (h .b) (h .c))
+    where
+      go : (s : SomeArguments) → withArguments (NoRecord l r x) s (λ a. Accessed (h .kind) a l r x)
+          → withArguments (NoRecord l r′ y) s (λ a. Accessed (h .kind) a l r′ y) → Same r r′ x y
+      go built.Malformed p q = none-one p q
+      go (built.Is a) p q = accessed-one (h .kind) a p q
+
+  texts-one : (t : Asked) → Texts t l r x → Texts t l r′ y → Same r r′ x y
+  texts-one texts.nothing p q = none-one p q
+  texts-one (asks t) p q = meet (p .0) (p .1) (q .0) (q .1)
+
+  reports-one : (h : Header) → Reports h l r x → Reports h l r′ y → Same r r′ x y
+  unfolding Reports
+  reports-one h = either (whole h l) (go (listed l (h .length / 128))) none-one
+    where
+      go : (cs : Listed) → withCalls (NoRecord l r x) cs (λ c. Reported h l c r x)
+          → withCalls (NoRecord l r′ y) cs (λ c. Reported h l c r′ y) → Same r r′ x y
+      go nothing p q = none-one p q
+      go (calls cs) p q = meet (p .reply) (p .bytes) (q .reply) (q .bytes)
+
+  view-one : (v : List ℕ) (from n : ℕ) → ViewGiven v from n l r x → ViewGiven v from n l r′ y → Same r r′ x y
+  view-one [] from n p q = meet (p .0) (p .1) (q .0) (q .1)
+  view-one (b ∷ bs) from n p q = given-one p q
+
+  page-one : (h : Header) (s : Store) → PageGiven h s l r x → PageGiven h s l r′ y → Same r r′ x y
+  page-one h s =
+      either (ltb 4097 (h .first .base)) none-one
+      (view-one (viewOf s (zerosOf (h .first .base) (h .first .value)) (h .a)) (h .b) (h .c))
+
+  says-one : (h : Header) (m : MachineState) → Says h m l r x → Says h m l r′ y → Same r r′ x y
+  unfolding Says
+  says-one h m = either (ltb (h .kind) 20) (accesses-one h) (texts-one (asked h m))
+
+  -- ---- and the store, which stays but for the bytes of a load
+  kept : {s a b : Store} {A B : Type 0} → (A → B → Same r r′ x y) → A × (a ≡ s) → B × (b ≡ s) → Same r r′ x y × (a ≡ b)
+  kept f p q = (f (p .0) (q .0), p .1 ∙ sym (q .1))
+
+  tells-one : (h : Header) (m : MachineState) (s : Store) {a b : Store}
+      → Tells h m s l r a x → Tells h m s l r′ b y → Same r r′ x y × (a ≡ b)
+  unfolding Tells
+  tells-one h m s =
+      either (eqb (h .kind) 20) (kept (page-one h s))
+      (either (eqb (h .kind) 25) (λ p q.
+      (let g = given-one (p .0) (q .0) in (
+        record { reply = g .reply; bytes = p .2 ∙ sym (q .2) },
+        p .1 ∙ ap (λ (c : List ℕ). storeOf (s .dir) c (s .used)) (g .bytes) ∙ sym (q .1),
+      )))
+      (either (eqb (h .kind) 26) (kept given-one)
+      (either (eqb (h .kind) 27) (kept given-one)
+      (either (eqb (h .kind) 28) (kept given-one)
+      (either (eqb (h .kind) 40) (kept (reports-one h)) (kept (says-one h m)))))))
+
+-- ---- a record: the count in use is that of the store
+pub record One (c c′ : Carried) (s s′ : Store) (x y : List ℕ) : Type 0 where
+  pub machine : c .machine ≡ c′ .machine
+  pub event : c .event ≡ c′ .event
+  pub reply : c .reply ≡ c′ .reply
+  pub store : s ≡ s′
+  pub lent : x ≡ y
+
+same-carried : {c c′ : Carried} {s s′ : Store} {x y : List ℕ} → c ≡ c′ → s ≡ s′ → x ≡ y → One c c′ s s′ x y
+same-carried e p q = record {
+  machine = ap (λ (c : Carried). c .machine) e;
+  event = ap (λ (c : Carried). c .event) e;
+  reply = ap (λ (c : Carried). c .reply) e;
+  store = p;
+  lent = q;
+}
+
+leaves-one : {a : After} {g : ℕ} {c c′ : Carried} {s s′ : Store} {x y : List ℕ}
+    → Leaves a g c s x → Leaves a g c′ s′ y → One c c′ s s′ x y
+leaves-one p q = record {
+  machine = p .machine ∙ sym (q .machine);
+  event = p .event ∙ sym (q .event);
+  reply = p .reply ∙ sym (q .reply);
+  store = p .store ∙ sym (q .store);
+  lent = p .lent ∙ sym (q .lent);
+}
+
+module _ (h : Header) (m : MachineState) (s : Store) (l : List ℕ) {c c′ : Carried} {a b : Store} {x y : List ℕ} where
+  stays-one : Stays h m s l c a x → Stays h m s l c′ b y → One c c′ a b x y
+  stays-one p q =
+      let e = tells-one l h m s (p .tells) (q .tells) in
+      same-carried (p .carried ∙ ap (λ (r : Reply). still m (s .used) r) (e .0 .reply) ∙ sym (q .carried)) (e .1) (e .0 .bytes)
+
+  called-one : Called h m s l c a x → Called h m s l c′ b y → One c c′ a b x y
+  unfolding Called
+  called-one = go (callOf h)
+    where
+      go : (k : SomeCall) → withCall (NoCall m s l c a x) k (λ k. Leaves (step k m s l) (length l) c a x)
+          → withCall (NoCall m s l c′ b y) k (λ k. Leaves (step k m s l) (length l) c′ b y) → One c c′ a b x y
+      go decoded.Malformed p q = same-carried (p .carried ∙ sym (q .carried)) (p .store ∙ sym (q .store)) (p .lent ∙ sym (q .lent))
+      go (decoded.Is k) p q = leaves-one p q
+
+  pub carried-one : CarriesOut h m s l c a x → CarriesOut h m s l c′ b y → One c c′ a b x y
+  unfolding CarriesOut
+  carried-one = either (ltb (h .kind) 11) called-one (either (eqb (h .kind) 11) leaves-one stays-one)
