@@ -1,11 +1,11 @@
--- What a call of 01's table does to a machine, a store and the bytes lent to it: put together from the definitions that the methods' contracts cite.
--- It knows nothing of the table's rows; those are proved of it (crate exposed).
+-- What a call of 01's table does to a machine, a store and the bytes lent to it: put together from the definitions that the methods'
+-- contracts cite. It knows nothing of the table's rows; those are proved of it (crate rows).
 use mathlib.Core.List.{List, [], _∷_}
 use Prim.Native.Nat.{ℕ}
-use Rattle.utils.specs.Outcome.{Outcome, gives}
+use Rattle.utils.specs.Outcome.{gives}
 use Rattle.store.specs.Store.{Store}
 use Rattle.machine_state.specs.Address.{addressOf}
-use Rattle.machine_state.specs.Answers.{Value, word, truth, After}
+use Rattle.machine_state.specs.Answers.{Value, truth, After}
 use Rattle.machine_state.specs.Flagged.{flagIn, setFlag, computeFlags}
 use Rattle.machine_state.specs.Memory.{after, passed, readMemory, writeMemory, readOperand, writeOperand, pushed, popped}
 use Rattle.machine_state.specs.declared.Address.{Address}

@@ -23,7 +23,8 @@ use Rattle.exposed.specs.declared.CallEntry.{CallEntry}
 
 -- ---- marking
 pub mark-none : (on : List Bool) (a : ℕ) (v : Bool) → Marked on on (inSpan (span a (a - a))) v
-mark-none on a v = record { long = refl; at = λ k. sym (ap (λ (b : Bool). cond b v (getD on k false)) (in-out (span a (a - a)) k (side k (decLt k a)))) }
+mark-none on a v =
+    record { long = refl; at = λ k. sym (ap (λ (b : Bool). cond b v (getD on k false)) (in-out (span a (a - a)) k (side k (decLt k a)))) }
   where
     side : (k : ℕ) → Dec (k < a) → (k < a) ⊎ (a + (a - a) ≤ k)
     side k (yes l) = inl l
@@ -36,7 +37,8 @@ mark-more on out a p v l fits m = record { long = length-set out p v ∙ m .long
     room : p < length out
     room = omega (arith, m .long)
 
-    same : (k : ℕ) → (k ≡ p → ⊥) → (inSpan (span a (p - a)) k ≡ true) ⊎ (inSpan (span a (p - a)) k ≡ false) → inSpan (span a (p - a)) k ≡ inSpan (span a (p + 1 - a)) k
+    same : (k : ℕ) → (k ≡ p → ⊥) → (inSpan (span a (p - a)) k ≡ true) ⊎ (inSpan (span a (p - a)) k ≡ false)
+        → inSpan (span a (p - a)) k ≡ inSpan (span a (p + 1 - a)) k
     same k ne (inl t) =
         let lo : a ≤ k = in-low (span a (p - a)) k t in
         let hi : k < a + (p - a) = in-high (span a (p - a)) k t in
@@ -45,27 +47,32 @@ mark-more on out a p v l fits m = record { long = length-set out p v ∙ m .long
         f ∙ sym (in-out (span a (p + 1 - a)) k
         (⊎-elim (λ (q : k < a). inl q) (λ (q : a + (p - a) ≤ k). inr (omega (arith, ne))) (in-no (span a (p - a)) k f)))
 
-    go : (k : ℕ) → (eqb k p ≡ true) ⊎ (eqb k p ≡ false) → getD (set out p v) k false ≡ cond (inSpan (span a (p + 1 - a)) k) v (getD on k false)
+    go : (k : ℕ) → (eqb k p ≡ true) ⊎ (eqb k p ≡ false)
+        → getD (set out p v) k false ≡ cond (inSpan (span a (p + 1 - a)) k) v (getD on k false)
     go k (inl t) =
         let e : k ≡ p = eqb-true k p t in
-        rw e (getD-set-same out p v false room ∙ sym (ap (λ (b : Bool). cond b v (getD on p false)) (in-yes (span a (p + 1 - a)) p l (omega arith))))
+        rw e (getD-set-same out p v false room
+        ∙ sym (ap (λ (b : Bool). cond b v (getD on p false)) (in-yes (span a (p + 1 - a)) p l (omega arith))))
     go k (inr f) =
         let ne : k ≡ p → ⊥ = eqb-false k p f in
-        getD-set-other out p k v false ne ∙ m .at k ∙ ap (λ (b : Bool). cond b v (getD on k false)) (same k ne (tested (inSpan (span a (p - a)) k)))
+        getD-set-other out p k v false ne ∙ m .at k
+        ∙ ap (λ (b : Bool). cond b v (getD on k false)) (same k ne (tested (inSpan (span a (p - a)) k)))
 
 marked-or : (a b v x : Bool) → cond b v (cond a v x) ≡ cond (a || b) v x
 marked-or true true v x = refl
 marked-or true false v x = refl
 marked-or false b v x = refl
 
-mark-twice : {on mid out : List Bool} {w u : ℕ → Bool} {v : Bool} → Marked on mid w v → Marked mid out u v → Marked on out (λ k. w k || u k) v
+mark-twice : {on mid out : List Bool} {w u : ℕ → Bool} {v : Bool} → Marked on mid w v → Marked mid out u v
+    → Marked on out (λ k. w k || u k) v
 mark-twice {on} {mid} {out} {w} {u} {v} a b =
     record {
       long = b .long ∙ a .long;
       at = λ k. b .at k ∙ ap (λ (x : Bool). cond (u k) v x) (a .at k) ∙ marked-or (w k) (u k) v (getD on k false);
     }
 
-pub mark-four : (s : Spans) (on a b c out : List Bool) (v : Bool) → Marked on a (inSpan (s .one)) v → Marked a b (inSpan (s .two)) v → Marked b c (inSpan (s .three)) v
+pub mark-four : (s : Spans) (on a b c out : List Bool) (v : Bool) → Marked on a (inSpan (s .one)) v → Marked a b (inSpan (s .two)) v
+    → Marked b c (inSpan (s .three)) v
     → Marked c out (inSpan (s .four)) v → Marked on out (inSpans s) v
 unfolding inSpans
 mark-four s on a b c out v h i j k = mark-twice h (mark-twice i (mark-twice j k))
@@ -107,8 +114,10 @@ shows true w later = refl
 shows false true later = refl
 shows false false later = refl
 
-pub listing-more : (calls : List CallEntry) (n : ℕ) (on mid out : List Bool) (k : ℕ) (d e : CallEntry) (r w : Spans) → 0 < k → n ≤ length calls
-    → e ≡ getD calls (k - 1) d → r ≡ readsOf (e .call) → w ≡ rewritesOf (e .call) → Marked on mid (inSpans w) false → Marked mid out (inSpans r) true
+pub listing-more : (calls : List CallEntry) (n : ℕ) (on mid out : List Bool) (k : ℕ) (d e : CallEntry) (r w : Spans) → 0 < k
+    → n ≤ length calls
+    → e ≡ getD calls (k - 1) d → r ≡ readsOf (e .call) → w ≡ rewritesOf (e .call) → Marked on mid (inSpans w) false
+    → Marked mid out (inSpans r) true
     → Listing calls n on k → Listing calls n out (k - 1)
 unfolding exposed entryReads entryRewrites
 listing-more calls n on mid out k d e r w pos fits ee er ew a b l =
@@ -127,16 +136,21 @@ listing-more calls n on mid out k d e r w pos fits ee er ew a b l =
     long : length out ≡ 182
     long = b .long ∙ a .long ∙ ap length (l .is) ∙ length-listed 182 (exposed entryReads entryRewrites rest)
 
-    at : (i : ℕ) → i < 182 → getD out i false ≡ (inSpans (readsOf (e .call)) i || not (inSpans (rewritesOf (e .call)) i) && exposed entryReads entryRewrites rest i)
+    at : (i : ℕ) → i < 182
+        → getD out i false
+        ≡ (inSpans (readsOf (e .call)) i || not (inSpans (rewritesOf (e .call)) i) && exposed entryReads entryRewrites rest i)
     at i h =
         b .at i ∙ ap (λ (x : Bool). cond (inSpans r i) true x) (a .at i) ∙ shows (inSpans r i) (inSpans w i) (getD on i false)
-        ∙ ap (λ (x : Bool). inSpans r i || not (inSpans w i) && x) (ap (λ (x : List Bool). getD x i false) (l .is) ∙ getD-listed 182 (exposed entryReads entryRewrites rest) i h)
+        ∙ ap (λ (x : Bool). inSpans r i || not (inSpans w i) && x)
+        (ap (λ (x : List Bool). getD x i false) (l .is) ∙ getD-listed 182 (exposed entryReads entryRewrites rest) i h)
         ∙ ap₂ (λ (x y : Spans). inSpans x i || not (inSpans y i) && exposed entryReads entryRewrites rest i) er ew
 
-pub listing-done : (calls : List CallEntry) (n : ℕ) (on : List Bool) → n ≤ 64 → Listing calls n on 0 → _≡_ {A = Says} record { outcome = gives []; places = on } (reported calls n)
+pub listing-done : (calls : List CallEntry) (n : ℕ) (on : List Bool) → n ≤ 64 → Listing calls n on 0
+    → _≡_ {A = Says} record { outcome = gives []; places = on } (reported calls n)
 unfolding reported
 listing-done calls n on h l = simp (le-leb n 64 h) (rw (l .is) refl)
 
-pub listing-refused : (calls : List CallEntry) (n : ℕ) → 64 < n → _≡_ {A = Says} record { outcome = refuses 12; places = replicate 182 false } (reported calls n)
+pub listing-refused : (calls : List CallEntry) (n : ℕ) → 64 < n
+    → _≡_ {A = Says} record { outcome = refuses 12; places = replicate 182 false } (reported calls n)
 unfolding reported
 listing-refused calls n h = simp (lt-leb n 64 h)

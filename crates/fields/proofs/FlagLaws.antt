@@ -22,7 +22,8 @@ module _ (x : ℕ) (f : Flags) (b : Bool) where
   unfolding bitSet putFlag
   flag-back =
       let e : bitOf f ≡ bitOf f + 0 = omega arith in
-      ap (λ (k : ℕ). eqb (cut (put x (bitOf f) 1 (boolBit b)) k 1) 1) e ∙ ap (λ (z : ℕ). eqb z 1) (put-inside x (bitOf f) 1 (boolBit b) 0 1 (omega arith)) ∙ bit-back b
+      ap (λ (k : ℕ). eqb (cut (put x (bitOf f) 1 (boolBit b)) k 1) 1) e
+      ∙ ap (λ (z : ℕ). eqb z 1) (put-inside x (bitOf f) 1 (boolBit b) 0 1 (omega arith)) ∙ bit-back b
 
   -- any n bits from bit k on that the flag's bit is not among
   pub bits-kept : (k n : ℕ) → (k + n ≤ bitOf f) ⊎ (bitOf f + 1 ≤ k) → cut (putFlag x f b) k n ≡ cut x k n

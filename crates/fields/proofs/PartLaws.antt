@@ -1,7 +1,7 @@
 -- The row of a part: a read looks at the lanes of its row alone, a write rewrites exactly those of its row, and what is written reads back.
 -- From the law of fields, once over the part. Assumes nothing.
 use mathlib.Core.Logic.{_⊎_, inl, inr}
-use mathlib.Core.Path.{_≡_, refl, sym, _∙_, ap}
+use mathlib.Core.Path.{_≡_, sym, _∙_, ap}
 use Prim.Native.Nat.{ℕ, _+_, _-_, _*_, _%_, _^_, _<_, _≤_}
 use native.Mathlib.Decide.{decLt}
 use native.Mathlib.Omega.{arith}
@@ -17,7 +17,8 @@ use Rattle.instruction_set.proofs.Part.{enum}
 use Rattle.fields.specs.Parts.{readOf, writeOf}
 
 -- words that agree on the lanes of the row read alike
-pub read-part-same : (p : Part) (x y : ℕ) → ((k : ℕ) → k < readsOf p → lane (firstOf p + k) x ≡ lane (firstOf p + k) y) → readOf p x ≡ readOf p y
+pub read-part-same : (p : Part) (x y : ℕ) → ((k : ℕ) → k < readsOf p → lane (firstOf p + k) x ≡ lane (firstOf p + k) y)
+    → readOf p x ≡ readOf p y
 unfolding readOf
 read-part-same p x y h =
     ap (extend (8 * readsOf p))
@@ -53,5 +54,7 @@ module _ (p : Part) (x v : ℕ) where
       let n = 8 * readsOf p in
       let e : 8 * firstOf p ≡ 8 * firstOf p + 0 = omega arith in
       ap (extend (8 * readsOf p))
-      (ap (λ (f : ℕ). cut (put x (8 * firstOf p) (8 * rewritesOf p) (v % 2 ^ (8 * readsOf p))) f (8 * readsOf p)) e ∙ put-inside x (8 * firstOf p) (8 * rewritesOf p) (v % 2 ^ (8 * readsOf p)) 0 (8 * readsOf p) (omega arith) ∙ cut-mod v (8 * readsOf p) 0 (8 * readsOf p) (omega arith)) ∙ sym
+      (ap (λ (f : ℕ). cut (put x (8 * firstOf p) (8 * rewritesOf p) (v % 2 ^ (8 * readsOf p))) f (8 * readsOf p)) e
+      ∙ put-inside x (8 * firstOf p) (8 * rewritesOf p) (v % 2 ^ (8 * readsOf p)) 0 (8 * readsOf p) (omega arith)
+      ∙ cut-mod v (8 * readsOf p) 0 (8 * readsOf p) (omega arith)) ∙ sym
       (extend-low (8 * readsOf p) v)

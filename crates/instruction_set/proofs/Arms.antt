@@ -3,7 +3,7 @@
 -- Assumes nothing.
 use mathlib.Core.Path.{_≡_, refl, sym, _∙_, ap, subst}
 use mathlib.Core.Bool.{Bool, true, false}
-use mathlib.Core.Logic.{_⊎_, inl, inr}
+use mathlib.Core.Logic.{inl, inr}
 use mathlib.Core.List.{List, [], _∷_}
 use Prim.Native.Nat.{ℕ, zero, suc}
 use lib.Dec.{T, eqb, eqb→eq}
@@ -39,7 +39,8 @@ at-place ([] ∷ Fss) g zero = g (inl tt)
 at-place ([] ∷ Fss) g (suc n) = at-place Fss (λ c. g (inr c)) n
 at-place ((F ∷ Fs) ∷ Fss) g n = true
 
-at-its : (Fss : List (List Field)) (g : Choice Fss → Bool) → T (bare Fss) → (c : Choice Fss) → at-place Fss g (tag (rowss Fss) (intoss Fss c)) ≡ g c
+at-its : (Fss : List (List Field)) (g : Choice Fss → Bool) → T (bare Fss) → (c : Choice Fss)
+    → at-place Fss g (tag (rowss Fss) (intoss Fss c)) ≡ g c
 at-its [] g b c = absurd c
 at-its ([] ∷ Fss) g b (inl x) = refl
 at-its ([] ∷ Fss) g b (inr c) = at-its Fss (λ e. g (inr e)) b c
@@ -73,11 +74,13 @@ arm N b f d h =
     subst T (at-its (N .parts) (λ c. f (N .make c)) b (N .as-values d) ∙ ap f (N .eta d))
     (passes (at-place (N .parts) (λ c. f (N .make c))) (tagOf (declared N) d) (N .parts) 0 h)
 
-pub arm-says : (N : Record) → T (bare (N .parts)) → (f : N .D → ℕ) (v : ℕ) (d : N .D) → OneOf (keys N (λ e. eqb v (f e))) (tagOf (declared N) d) → v ≡ f d
+pub arm-says : (N : Record) → T (bare (N .parts)) → (f : N .D → ℕ) (v : ℕ) (d : N .D)
+    → OneOf (keys N (λ e. eqb v (f e))) (tagOf (declared N) d) → v ≡ f d
 arm-says N b f v d h = eqb→eq v (f d) (arm N b (λ e. eqb v (f e)) d h)
 
 -- two values of such an enum that have one place are one value
-choice-one : (Fss : List (List Field)) → T (bare Fss) → (c e : Choice Fss) → tag (rowss Fss) (intoss Fss c) ≡ tag (rowss Fss) (intoss Fss e) → c ≡ e
+choice-one : (Fss : List (List Field)) → T (bare Fss) → (c e : Choice Fss)
+    → tag (rowss Fss) (intoss Fss c) ≡ tag (rowss Fss) (intoss Fss e) → c ≡ e
 choice-one [] b c e p = absurd c
 choice-one ([] ∷ Fss) b (inl x) (inl y) p = refl
 choice-one ([] ∷ Fss) b (inl x) (inr e) p = absurd (omega arith)
@@ -85,7 +88,8 @@ choice-one ([] ∷ Fss) b (inr c) (inl y) p = absurd (omega arith)
 choice-one ([] ∷ Fss) b (inr c) (inr e) p = ap inr (choice-one Fss b c e (omega arith))
 choice-one ((F ∷ Fs) ∷ Fss) b c e p = absurd b
 
-pub arm-picks : (N R : Record) → T (bare (N .parts)) → T (bare (R .parts)) → (f : N .D → R .D) (v : R .D) (d : N .D) → OneOf (keys N (λ e. eqb (tagOf (declared R) v) (tagOf (declared R) (f e)))) (tagOf (declared N) d) → v ≡ f d
+pub arm-picks : (N R : Record) → T (bare (N .parts)) → T (bare (R .parts)) → (f : N .D → R .D) (v : R .D) (d : N .D)
+    → OneOf (keys N (λ e. eqb (tagOf (declared R) v) (tagOf (declared R) (f e)))) (tagOf (declared N) d) → v ≡ f d
 arm-picks N R b b′ f v d h =
     values-one R v (f d)
     (choice-one (R .parts) b′ (R .as-values v) (R .as-values (f d))
@@ -125,4 +129,5 @@ module _ (N : Record) (b : T (bare (N .parts))) (f : N .D → ℕ) where
       let u = all N (apart x) s y in
       values-one N x y
       (choice-one (N .parts) b (N .as-values x) (N .as-values y)
-      (eqb→eq (tagOf (declared N) x) (tagOf (declared N) y) (implied (eqb (f x) (f y)) (eqb (tagOf (declared N) x) (tagOf (declared N) y)) u (eq-eqb (f x) (f y) e))))
+      (eqb→eq (tagOf (declared N) x) (tagOf (declared N) y)
+      (implied (eqb (f x) (f y)) (eqb (tagOf (declared N) x) (tagOf (declared N) y)) u (eq-eqb (f x) (f y) e))))

@@ -66,8 +66,8 @@ sizeOr (arg.Register r) o = gives (registerSize r ∷ [])
 sizeOr (arg.Immediate v) o = o
 sizeOr (arg.EffectiveAddress b i s d) o = o
 
--- 8: two arguments, no explicit size, neither rule of `size()` finds a register; a single argument that is no register counts as Bit64, as in the
--- Rust's `size()`
+-- 8: two arguments, no explicit size, neither rule of `size()` finds a register; a single argument that is no register counts as Bit64,
+-- as in the Rust's `size()`
 abbrev pub secondSize : SomeArgument → Outcome ArgumentSize
 secondSize some.Absent = gives (Bit64 ∷ [])
 secondSize (some.Present b) = sizeOr b (refuses 8)

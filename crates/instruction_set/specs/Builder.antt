@@ -1,5 +1,5 @@
 -- The builder of the Rust: each method gives one part, and a part that is given twice keeps the last.
-use mathlib.Core.Bool.{Bool, true, false}
+use mathlib.Core.Bool.{Bool, false}
 use Prim.Native.Nat.{ℕ}
 use Rattle.instruction_set.specs.declared.ArgumentSize.{ArgumentSize}
 use Rattle.instruction_set.specs.declared.InstructionArgument.{InstructionArgument}
@@ -33,10 +33,12 @@ module _ (b : InstructionArgumentsBuilder) where
   withSecond a = builder (b .«first_argument») (some.Present a) (b .opcode) (b .«explicit_size») (b .«repeat_equal») (b .«repeat_not_equal»)
 
   abbrev pub withOpcode : ℕ → InstructionArgumentsBuilder
-  withOpcode o = builder (b .«first_argument») (b .«second_argument») (code.Present o) (b .«explicit_size») (b .«repeat_equal») (b .«repeat_not_equal»)
+  withOpcode o =
+      builder (b .«first_argument») (b .«second_argument») (code.Present o) (b .«explicit_size») (b .«repeat_equal») (b .«repeat_not_equal»)
 
   abbrev pub withSize : ArgumentSize → InstructionArgumentsBuilder
-  withSize s = builder (b .«first_argument») (b .«second_argument») (b .opcode) (explicit.Present s) (b .«repeat_equal») (b .«repeat_not_equal»)
+  withSize s =
+      builder (b .«first_argument») (b .«second_argument») (b .opcode) (explicit.Present s) (b .«repeat_equal») (b .«repeat_not_equal»)
 
   abbrev pub withRepeat : Bool → Bool → InstructionArgumentsBuilder
   withRepeat e n = builder (b .«first_argument») (b .«second_argument») (b .opcode) (b .«explicit_size») e n

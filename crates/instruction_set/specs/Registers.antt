@@ -1,5 +1,5 @@
--- The table of 01, "Registers and flags": for each register the number of its parent and which part of it the register is; for each part its
--- lowest byte lane, how many lanes are read, and how many a write rewrites.
+-- The table of 01, "Registers and flags": for each register the number of its parent and which part of it the register is; for each part
+-- its lowest byte lane, how many lanes are read, and how many a write rewrites.
 use Prim.Native.Nat.{ℕ}
 use Rattle.instruction_set.specs.declared.Part.{Part}
 use Rattle.instruction_set.specs.declared.Part.the-variants.{Whole, Low32, Low16, Low8, High8, Nothing}

@@ -1,6 +1,6 @@
--- One turn of each loop over pages: where the access stands then, and how a part joins those before it, for a read and for a write;
--- and a write within one page that has a slot, which is one part.
--- The idea: a part is `filled` or `written` from the function "byte k of the access", so that parts end to end are one (runs: Filled.filled-add, Slot.written-add).
+-- One turn of each loop over pages: where the access stands then, and how a part joins those before it, for a read and for a write; and a
+-- write within one page that has a slot, which is one part. The idea: a part is `filled` or `written` from the function "byte k of the
+-- access", so that parts end to end are one (runs: Filled.filled-add, Slot.written-add).
 use mathlib.Core.Path.{_≡_, refl, sym, ap, _∙_}
 use mathlib.Core.List.{List}
 use Prim.Native.Nat.{ℕ, suc, _+_, _-_, _*_, _/_, _%_, _<_, _≤_}
@@ -20,7 +20,8 @@ use Rattle.store.proofs.Growth.{written-count, absent-upto, room-at, still}
 pub reached-first : (p len : ℕ) → Reached p len (p / 4096) (p % 4096) 0
 reached-first p len = record { within = omega arith; inside = omega arith; place = λ h. omega arith }
 
-pub reached-next : (p len g off done n : ℕ) → Reached p len g off done → done < len → Part off (len - done) n → Reached p len (g + 1) 0 (done + n)
+pub reached-next : (p len g off done n : ℕ) → Reached p len g off done → done < len → Part off (len - done) n
+    → Reached p len (g + 1) 0 (done + n)
 reached-next p len g off done n r lt q =
     let e = r .place lt in
     record {
@@ -30,14 +31,17 @@ reached-next p len g off done n r lt q =
     }
 
 -- ---- a read
-pub read-step : (s : Store) (p : ℕ) (out₀ out o : List ℕ) (g off done n : ℕ) → 4096 * g + off ≡ p + done → out ≡ filled out₀ 0 (bytesFrom s p) done
+pub read-step : (s : Store) (p : ℕ) (out₀ out o : List ℕ) (g off done n : ℕ) → 4096 * g + off ≡ p + done
+    → out ≡ filled out₀ 0 (bytesFrom s p) done
     → o ≡ filled out done (bytesFrom s (4096 * g + off)) n → o ≡ filled out₀ 0 (bytesFrom s p) (done + n)
 read-step s p out₀ out o g off done n e eo e′ =
     e′ ∙ rw (e, eo)
-    (filled-ext (filled out₀ 0 (bytesFrom s p) done) done (bytesFrom s (p + done)) (λ (k : ℕ). bytesFrom s p (done + k)) n (λ k lt. rw (add-assoc p done k))
+    (filled-ext (filled out₀ 0 (bytesFrom s p) done) done (bytesFrom s (p + done)) (λ (k : ℕ). bytesFrom s p (done + k)) n
+    (λ k lt. rw (add-assoc p done k))
     ∙ (rw (zero-add done) at (filled-add out₀ 0 (bytesFrom s p) done n)))
 
-pub read-end : (s : Store) (p : ℕ) (out₀ o : List ℕ) (done : ℕ) → done ≡ length out₀ → o ≡ filled out₀ 0 (bytesFrom s p) done → o ≡ readAt s p (length out₀)
+pub read-end : (s : Store) (p : ℕ) (out₀ o : List ℕ) (done : ℕ) → done ≡ length out₀ → o ≡ filled out₀ 0 (bytesFrom s p) done
+    → o ≡ readAt s p (length out₀)
 unfolding readAt
 read-end s p out₀ o done e eo = eo ∙ rw e (filled-all out₀ (bytesFrom s p) (length out₀) refl)
 
@@ -57,7 +61,8 @@ module _ (s : Store) (g off n from len : ℕ) (r : Ready s g off n from len) whe
       → storeOf (s .dir) b (s .used) ≡ written s (4096 * g + off) u n
   part-at i u b e eb = ap (λ (l : List ℕ). storeOf (s .dir) l (s .used)) eb ∙ sym (written-here s g i off u n e (r .inside))
 
-  pub part-new : (u : ℕ → ℕ) (t : Store) (b : List ℕ) → foundIn (live s) g ≡ Nothing → t ≡ taken s g → b ≡ filled (t .bytes) (4096 * s .used + off) u n
+  pub part-new : (u : ℕ → ℕ) (t : Store) (b : List ℕ) → foundIn (live s) g ≡ Nothing → t ≡ taken s g
+      → b ≡ filled (t .bytes) (4096 * s .used + off) u n
       → storeOf (t .dir) b (t .used) ≡ written s (4096 * g + off) u n
   part-new u t b e et eb =
       ap (λ (l : List ℕ). storeOf (t .dir) l (t .used)) eb
@@ -66,7 +71,8 @@ module _ (s : Store) (g off n from len : ℕ) (r : Ready s g off n from len) whe
 
 -- ---- a write, part by part
 -- there is room for the part of the page that the write has reached
-pub ready-part : (s : Store) (p : ℕ) (f : ℕ → ℕ) (len g off done n : ℕ) → Fits s p len → Reached p len g off done → done < len → Part off (len - done) n
+pub ready-part : (s : Store) (p : ℕ) (f : ℕ → ℕ) (len g off done n : ℕ) → Fits s p len → Reached p len g off done → done < len
+    → Part off (len - done) n
     → Ready (written s p f done) g off n done len
 ready-part s p f len g off done n h r lt q =
     let e = r .place lt in

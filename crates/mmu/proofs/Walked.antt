@@ -32,7 +32,8 @@ word-same : (s t : Store) (q : ℕ) → ((k : ℕ) → k < 8 → byteAt s (q + k
 unfolding wordAt readAt
 word-same s t q h = ap fromBytes (tab-ext (λ (k : ℕ). byteAt s (q + k)) (λ (k : ℕ). byteAt t (q + k)) 8 h)
 
-next-same : (s t : Store) (l b a : ℕ) → ((k : ℕ) → k < 8 → byteAt s (entryPlace l b a + k) ≡ byteAt t (entryPlace l b a + k)) → nextTable s l b a ≡ nextTable t l b a
+next-same : (s t : Store) (l b a : ℕ) → ((k : ℕ) → k < 8 → byteAt s (entryPlace l b a + k) ≡ byteAt t (entryPlace l b a + k))
+    → nextTable s l b a ≡ nextTable t l b a
 unfolding nextTable
 next-same s t l b a h = rw (word-same s t (entryPlace l b a) h)
 

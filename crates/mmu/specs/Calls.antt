@@ -1,5 +1,6 @@
--- What the public calls owe: each answer's number, the lent bytes afterwards, the store, and what is shown on the screen. Written from 01, "Refusal numbers" and
--- "Addresses, pages, walk"; every contract is an equation with one of these, or a record of such equations (`Wrote`), so that no two outcomes satisfy it.
+-- What the public calls owe: each answer's number, the lent bytes afterwards, the store, and what is shown on the screen. Written from
+-- 01, "Refusal numbers" and "Addresses, pages, walk"; every contract is an equation with one of these, or a record of such equations
+-- (`Wrote`), so that no two outcomes satisfy it.
 use mathlib.Core.Path.{_≡_}
 use mathlib.Core.Bool.{Bool, cond, _&&_}
 use mathlib.Core.List.{List, [], _∷_}
@@ -34,11 +35,12 @@ readOutcome s n = cond (sound s) (cond (leb n 4096) (gives []) (refuses 5)) (ref
 unfoldable pub readOut : Store → ℕ → ℕ → List ℕ → List ℕ
 readOut s cr3 a out = cond (accepted (readOutcome s (length out))) (readAt s (physical s cr3 a) (length out)) out
 
--- "Length 0 .. still reaches memory for refusal 4": it touches no page, so 6 is never given; that no walk is done shows in no outcome, and is the code's
--- a write of n bytes at physical p: 4, then 5, then 6, "a write touches more absent pages than there are unused slots"
+-- a write of n bytes at physical p: 4, then 5, then 6, "a write touches more absent pages than there are unused slots".
+-- "Length 0 .. still reaches memory for refusal 4": it touches no page, so 6 is never given; that no walk is done shows in no outcome
 unfoldable pub writeOutcome : Store → ℕ → ℕ → Outcome ℕ
 writeOutcome s p n =
-    cond (sound s) (cond (leb n 4096) (cond (leb (absentOf (live s) (touched p n)) (unused s)) (gives []) (refuses 6)) (refuses 5)) (refuses 4)
+    cond (sound s) (cond (leb n 4096) (cond (leb (absentOf (live s) (touched p n)) (unused s)) (gives []) (refuses 6)) (refuses 5))
+    (refuses 4)
 
 abbrev pub byteOf : List ℕ → ℕ → ℕ
 byteOf d k = getD d k 0
@@ -47,7 +49,8 @@ byteOf d k = getD d k 0
 unfoldable pub writeStore : Store → ℕ → List ℕ → Store
 writeStore s p d = cond (accepted (writeOutcome s p (length d))) (written s p (byteOf d) (length d)) s
 
--- "A write of at least one byte at an even physical address from 0xB8000 to 0xB8FA0, ends included, gives a video event with its first byte"
+-- "A write of at least one byte at an even physical address from 0xB8000 to 0xB8FA0, ends included, gives a video event with its first
+-- byte"
 unfoldable pub cell : ℕ → Bool
 cell p = leb 0xB8000 p && (leb p 0xB8FA0 && eqb (p % 2) 0)
 

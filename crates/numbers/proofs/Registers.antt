@@ -1,5 +1,6 @@
 -- What stands at a number: one of the list, or nothing past its end. And the lists agree with the numbers: the register at place n has
--- number n, as the numbers of the list are seen to be 0, 1, .. by computation, and each size stands at its number, by cases. Assumes nothing.
+-- number n, as the numbers of the list are seen to be 0, 1, .. by computation, and each size stands at its number, by cases. Assumes
+-- nothing.
 use mathlib.Core.List.{List, [], _∷_, map}
 use mathlib.Core.Path.{_≡_, refl, sym, ap, _∙_}
 use Prim.Native.Nat.{ℕ, zero, suc, _+_, _<_, _≤_}

@@ -106,10 +106,16 @@ sizeNumber Bit8 = 3
 -- "Registers are numbered in the Rust's order, RAX 0 to GS 79"
 abbrev pub registers : List Register
 registers =
-    reg.RAX ∷ reg.RBX ∷ reg.RCX ∷ reg.RDX ∷ reg.RSP ∷ reg.RBP ∷ reg.RSI ∷ reg.RDI ∷ reg.R8 ∷ reg.R9 ∷ reg.R10 ∷ reg.R11 ∷ reg.R12 ∷ reg.R13 ∷ reg.R14 ∷ reg.R15 ∷ reg.RIP ∷ reg.CR0 ∷ reg.CR2 ∷ reg.CR3 ∷ reg.CR4 ∷ reg.CR8 ∷
-    reg.EAX ∷ reg.EBX ∷ reg.ECX ∷ reg.EDX ∷ reg.ESP ∷ reg.EBP ∷ reg.ESI ∷ reg.EDI ∷ reg.R8D ∷ reg.R9D ∷ reg.R10D ∷ reg.R11D ∷ reg.R12D ∷ reg.R13D ∷ reg.R14D ∷ reg.R15D ∷
-    reg.AX ∷ reg.CX ∷ reg.DX ∷ reg.BX ∷ reg.SP ∷ reg.BP ∷ reg.SI ∷ reg.DI ∷ reg.R8W ∷ reg.R9W ∷ reg.R10W ∷ reg.R11W ∷ reg.R12W ∷ reg.R13W ∷ reg.R14W ∷ reg.R15W ∷
-    reg.AL ∷ reg.CL ∷ reg.DL ∷ reg.BL ∷ reg.AH ∷ reg.CH ∷ reg.DH ∷ reg.BH ∷ reg.SPL ∷ reg.BPL ∷ reg.SIL ∷ reg.DIL ∷ reg.R8B ∷ reg.R9B ∷ reg.R10B ∷ reg.R11B ∷ reg.R12B ∷ reg.R13B ∷ reg.R14B ∷ reg.R15B ∷
+    reg.RAX ∷ reg.RBX ∷ reg.RCX ∷ reg.RDX ∷ reg.RSP ∷ reg.RBP ∷ reg.RSI ∷ reg.RDI ∷
+    reg.R8 ∷ reg.R9 ∷ reg.R10 ∷ reg.R11 ∷ reg.R12 ∷ reg.R13 ∷ reg.R14 ∷ reg.R15 ∷
+    reg.RIP ∷ reg.CR0 ∷ reg.CR2 ∷ reg.CR3 ∷ reg.CR4 ∷ reg.CR8 ∷
+    reg.EAX ∷ reg.EBX ∷ reg.ECX ∷ reg.EDX ∷ reg.ESP ∷ reg.EBP ∷ reg.ESI ∷ reg.EDI ∷
+    reg.R8D ∷ reg.R9D ∷ reg.R10D ∷ reg.R11D ∷ reg.R12D ∷ reg.R13D ∷ reg.R14D ∷ reg.R15D ∷
+    reg.AX ∷ reg.CX ∷ reg.DX ∷ reg.BX ∷ reg.SP ∷ reg.BP ∷ reg.SI ∷ reg.DI ∷
+    reg.R8W ∷ reg.R9W ∷ reg.R10W ∷ reg.R11W ∷ reg.R12W ∷ reg.R13W ∷ reg.R14W ∷ reg.R15W ∷
+    reg.AL ∷ reg.CL ∷ reg.DL ∷ reg.BL ∷ reg.AH ∷ reg.CH ∷ reg.DH ∷ reg.BH ∷
+    reg.SPL ∷ reg.BPL ∷ reg.SIL ∷ reg.DIL ∷ reg.R8B ∷ reg.R9B ∷ reg.R10B ∷ reg.R11B ∷
+    reg.R12B ∷ reg.R13B ∷ reg.R14B ∷ reg.R15B ∷
     reg.ES ∷ reg.CS ∷ reg.SS ∷ reg.DS ∷ reg.FS ∷ reg.GS ∷ []
 
 unfoldable pub registerAt : ℕ → SomeRegister

@@ -62,8 +62,10 @@ SomeNarrow (some.Present x) = Narrow x
 pub operand-most : (size : ArgumentSize) (x : InstructionArgument) → Narrow x → length (operandText size x) ≤ 28
 operand-most size (arg.Immediate v) n = let h = hex-most (cut v 0 (8 * bytesOf size)) in omega arith
 operand-most size (arg.Register r) n = let h = register-most r in omega arith
-operand-most size (arg.EffectiveAddress b i s d) n = joined 11 17 (displacementText d) (addressText b i s) (displacement-most d n) (address-most b i s)
+operand-most size (arg.EffectiveAddress b i s d) n =
+    joined 11 17 (displacementText d) (addressText b i s) (displacement-most d n) (address-most b i s)
 
-pub list-most : (size : ArgumentSize) (x : InstructionArgument) (y : SomeArgument) → Narrow x → SomeNarrow y → length (listText size x y) ≤ 57
+pub list-most : (size : ArgumentSize) (x : InstructionArgument) (y : SomeArgument) → Narrow x → SomeNarrow y
+    → length (listText size x y) ≤ 57
 list-most size x some.Absent n m = let h = operand-most size x n in omega arith
 list-most size x (some.Present y) n m = simp length-append (omega (arith, operand-most size x n, operand-most size y m))

@@ -70,7 +70,8 @@ digits-under k x p m h =
     not-above : 2 ^ (4 * (digitsOf x - 1)) ≤ x → digitsOf x ≤ k
     not-above b =
         ⊎-elim
-        (λ (l : k < digitsOf x). let e : 4 * k ≤ 4 * (digitsOf x - 1) = omega arith in absurd (lt-irrefl x (lt-of-lt-of-le h (le-trans (pow-mono e) b))))
+        (λ (l : k < digitsOf x). let e : 4 * k ≤ 4 * (digitsOf x - 1) = omega arith in
+        absurd (lt-irrefl x (lt-of-lt-of-le h (le-trans (pow-mono e) b))))
         (λ (g : digitsOf x ≤ k). g)
         (lt-or-le k (digitsOf x))
 

@@ -31,4 +31,5 @@ pub decimal-most : (x : ℕ) → length (decimalText x) ≤ 3
 decimal-most x =
     let ten = cond (ltb x 100) (digit (x / 10) ∷ digit (x % 10) ∷ []) (digit (x / 100) ∷ digit (x / 10 % 10) ∷ digit (x % 10) ∷ []) in
     either 3 (ltb x 10) (digit x ∷ []) ten (omega arith)
-    (either 3 (ltb x 100) (digit (x / 10) ∷ digit (x % 10) ∷ []) (digit (x / 100) ∷ digit (x / 10 % 10) ∷ digit (x % 10) ∷ []) (omega arith) (omega arith))
+    (either 3 (ltb x 100) (digit (x / 10) ∷ digit (x % 10) ∷ []) (digit (x / 100) ∷ digit (x / 10 % 10) ∷ digit (x % 10) ∷ [])
+    (omega arith) (omega arith))

@@ -1,5 +1,5 @@
--- Laws of writing text piece by piece: two pieces one after the other, and a loop that writes what is left. Where a place can go no further,
--- what is written there or beyond lies past the buffer's end and changes nothing. Assumes nothing.
+-- Laws of writing text piece by piece: two pieces one after the other, and a loop that writes what is left. Where a place can go no
+-- further, what is written there or beyond lies past the buffer's end and changes nothing. Assumes nothing.
 use mathlib.Core.Path.{_≡_, refl, sym, ap, _∙_}
 use mathlib.Core.Logic.{⊎-elim}
 use mathlib.Core.List.{List, [], _∷_, _++_}
@@ -63,7 +63,8 @@ sets-place : (d : List ℕ) (at n : ℕ) (t : List ℕ) → length d < 2 ^ 64 �
 sets-place d at n t h =
     ⊎-elim
     (λ (l : at + n < 2 ^ 64). ap (λ (k : ℕ). sets d k t) (place-near at n l))
-    (λ (g : 2 ^ 64 ≤ at + n). let f = place-far at n g in sets-out d (placeAfter at n) t (omega arith) ∙ sym (sets-out d (at + n) t (omega arith)))
+    (λ (g : 2 ^ 64 ≤ at + n). let f = place-far at n g in sets-out d (placeAfter at n) t (omega arith)
+    ∙ sym (sets-out d (at + n) t (omega arith)))
     (lt-or-le (at + n) (2 ^ 64))
 
 -- t is written after s

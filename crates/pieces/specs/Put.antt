@@ -1,5 +1,5 @@
--- What a writer of one piece of text leaves: the contract of every writer. `d′` is `d` with the text `t` stored from `at` on (stores past the
--- end do nothing), `r` is the place after it, and the text has at most `n` bytes.
+-- What a writer of one piece of text leaves: the contract of every writer. `d′` is `d` with the text `t` stored from `at` on (stores past
+-- the end do nothing), `r` is the place after it, and the text has at most `n` bytes.
 use mathlib.Core.List.{List}
 use mathlib.Core.Path.{_≡_}
 use Prim.Native.Nat.{ℕ, _+_, _-_, _^_, _≤_, _<_, min}

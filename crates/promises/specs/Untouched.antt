@@ -1,5 +1,6 @@
--- Demand 1: "Every call takes every input. Where the Rust panics .., memory is full or another of document 01's conditions holds, its numbered
--- refusal comes back, and machine, memory and lent buffers stay untouched." 01 adds: "A refusal yields its number, no value and no event".
+-- Demand 1: "Every call takes every input. Where the Rust panics .., memory is full or another of document 01's conditions holds, its
+-- numbered refusal comes back, and machine, memory and lent buffers stay untouched." 01 adds: "A refusal yields its number, no value and
+-- no event".
 use mathlib.Core.List.{List, []}
 use mathlib.Core.Path.{_≡_}
 use Prim.Native.Nat.{ℕ}
@@ -20,4 +21,5 @@ pub record Untouched (m : MachineState) (s : Store) (l : List ℕ) (r : After) :
 
 -- of every call of 01's table, on every machine, store and lent bytes
 abbrev pub RefusedUntouched : Type 0
-RefusedUntouched = (c : Call) (m : MachineState) (s : Store) (l : List ℕ) → (step c m s l .outcome .number ≡ 0 → ⊥) → Untouched m s l (step c m s l)
+RefusedUntouched =
+    (c : Call) (m : MachineState) (s : Store) (l : List ℕ) → (step c m s l .outcome .number ≡ 0 → ⊥) → Untouched m s l (step c m s l)

@@ -35,13 +35,21 @@ sizeOr x (size.Present z) = size.Present z
 
 module _ (b : InstructionArgumentsBuilder) where
   abbrev pub firstGiven : SomeArgument → InstructionArgumentsBuilder
-  firstGiven a = builder (argumentOr (b .«first_argument») a) (b .«second_argument») (b .opcode) (b .«explicit_size») (b .«repeat_equal») (b .«repeat_not_equal»)
+  firstGiven a =
+      builder (argumentOr (b .«first_argument») a) (b .«second_argument») (b .opcode) (b .«explicit_size») (b .«repeat_equal»)
+      (b .«repeat_not_equal»)
 
   abbrev pub secondGiven : SomeArgument → InstructionArgumentsBuilder
-  secondGiven a = builder (b .«first_argument») (argumentOr (b .«second_argument») a) (b .opcode) (b .«explicit_size») (b .«repeat_equal») (b .«repeat_not_equal»)
+  secondGiven a =
+      builder (b .«first_argument») (argumentOr (b .«second_argument») a) (b .opcode) (b .«explicit_size») (b .«repeat_equal»)
+      (b .«repeat_not_equal»)
 
   abbrev pub opcodeGiven : SomeOpcode → InstructionArgumentsBuilder
-  opcodeGiven o = builder (b .«first_argument») (b .«second_argument») (opcodeOr (b .opcode) o) (b .«explicit_size») (b .«repeat_equal») (b .«repeat_not_equal»)
+  opcodeGiven o =
+      builder (b .«first_argument») (b .«second_argument») (opcodeOr (b .opcode) o) (b .«explicit_size») (b .«repeat_equal»)
+      (b .«repeat_not_equal»)
 
   abbrev pub sizeGiven : SomeSize → InstructionArgumentsBuilder
-  sizeGiven s = builder (b .«first_argument») (b .«second_argument») (b .opcode) (sizeOr (b .«explicit_size») s) (b .«repeat_equal») (b .«repeat_not_equal»)
+  sizeGiven s =
+      builder (b .«first_argument») (b .«second_argument») (b .opcode) (sizeOr (b .«explicit_size») s) (b .«repeat_equal»)
+      (b .«repeat_not_equal»)

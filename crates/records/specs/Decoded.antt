@@ -1,5 +1,6 @@
 -- What the words of a record ask for (docs/FORMAT.md, "A record"; an event: "Texts and the report"), as functions of the words. A number
--- that names nothing is malformed, and so is all that it is a part of: the words alone say what is malformed, and decoders that meet this agree.
+-- that names nothing is malformed, and so is all that it is a part of: the words alone say what is malformed, and decoders that meet this
+-- agree.
 use mathlib.Core.Bool.{cond}
 use mathlib.Core.List.{List, [], _∷_}
 use Prim.Native.Nat.{ℕ, zero, suc}

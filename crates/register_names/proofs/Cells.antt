@@ -68,7 +68,8 @@ from-space (suc m) i e = rw (eq-eqb (getD cells i 0) 32 e)
 pub from-most : (m i : ℕ) → length (nameFrom m i) ≤ m
 unfolding nameFrom
 from-most zero i = omega arith
-from-most (suc m) i = either (suc m) (eqb (getD cells i 0) 32) [] (getD cells i 0 ∷ nameFrom m (suc i)) (omega arith) (omega (arith, from-most m (suc i)))
+from-most (suc m) i =
+    either (suc m) (eqb (getD cells i 0) 32) [] (getD cells i 0 ∷ nameFrom m (suc i)) (omega arith) (omega (arith, from-most m (suc i)))
 
 pub from-pos : (m i : ℕ) → 0 < m → (getD cells i 0 ≡ 32 → ⊥) → nameFrom m i ≡ (getD cells i 0 ∷ []) ++ nameFrom (m - 1) (i + 1)
 unfolding nameFrom

@@ -97,7 +97,8 @@ nameOf GS = ascii "gs"
 abbrev pub registerText : Register → List ℕ
 registerText r = ascii "%" ++ nameOf r
 
--- ---- what only private functions' contracts cite: how the code holds the names, 80 cells of four bytes, with spaces after the name; by part, then by parent; the segments last
+-- ---- what only private functions' contracts cite
+-- how the code holds the names: 80 cells of four bytes, with spaces after the name; by part, then by parent; the segments last
 unfoldable pub cells : List ℕ
 cells =
     ascii "rax rbx rcx rdx rsp rbp rsi rdi r8  r9  r10 r11 r12 r13 r14 r15 rip cr0 cr2 cr3 cr4 cr8 "

@@ -1,5 +1,5 @@
--- From what each call owes to the theorem on forgotten readers for every list of calls, and exposed as the demand says it: both by induction
--- on the list. Nothing here knows what a call, a place or a state is. Assumes nothing.
+-- From what each call owes to the theorem on forgotten readers for every list of calls, and exposed as the demand says it: both by
+-- induction on the list. Nothing here knows what a call, a place or a state is. Assumes nothing.
 use Prim.Native.Nat.{ℕ}
 use mathlib.Core.Path.{_≡_, refl, sym, ap, ap₂, _∙_}
 use mathlib.Core.Logic.{_⊎_, inl, inr}
@@ -18,12 +18,15 @@ pub record Owed
   pub stays : (c : C) (x : X) → reaches c ≡ false → shared (does c x .after) ≡ shared x
   pub moves : (c : C) (x y : X) → Good x → Good y → ((p : ℕ) → reads c p ≡ true → place x p ≡ place y p) → shared x ≡ shared y
       → shared (does c x .after) ≡ shared (does c y .after)
-  pub answers : (c : C) (x y : X) → Good x → Good y → ((p : ℕ) → reads c p ≡ true → place x p ≡ place y p) → (reaches c ≡ true → shared x ≡ shared y)
+  pub answers : (c : C) (x y : X) → Good x → Good y → ((p : ℕ) → reads c p ≡ true → place x p ≡ place y p)
+      → (reaches c ≡ true → shared x ≡ shared y)
       → does c x .answer ≡ does c y .answer
-  pub renews : (c : C) (x y : X) (p : ℕ) → Good x → Good y → ((p : ℕ) → reads c p ≡ true → place x p ≡ place y p) → (reaches c ≡ true → shared x ≡ shared y)
+  pub renews : (c : C) (x y : X) (p : ℕ) → Good x → Good y → ((p : ℕ) → reads c p ≡ true → place x p ≡ place y p)
+      → (reaches c ≡ true → shared x ≡ shared y)
       → rewrites c p ≡ true → place (does c x .after) p ≡ place (does c y .after) p
 
-module _ {C A X S Z : Type 0} (reads rewrites : C → ℕ → Bool) (reaches : C → Bool) (does : C → X → Left A X) (shared : X → S) (place : X → ℕ → Z)
+module _ {C A X S Z : Type 0} (reads rewrites : C → ℕ → Bool) (reaches : C → Bool) (does : C → X → Left A X) (shared : X → S)
+    (place : X → ℕ → Z)
     (Good : X → Type 0) (owed : Owed reads rewrites reaches does shared place Good) where
   pub kept : (cs : List C) (x : X) (p : ℕ) → Good x → rewritten rewrites cs p ≡ false → place (end does cs x) p ≡ place x p
   unfolding rewritten end
@@ -33,11 +36,13 @@ module _ {C A X S Z : Type 0} (reads rewrites : C → ℕ → Bool) (reaches : C
       ∙ owed .keeps c x p g (or-none-left (rewrites c p) (rewritten rewrites cs p) h)
 
   -- after one call they agree where they did, and where it rewrites
-  after-one : (c : C) (x y : X) (p : ℕ) → Good x → Good y → ((p : ℕ) → reads c p ≡ true → place x p ≡ place y p) → (reaches c ≡ true → shared x ≡ shared y)
+  after-one : (c : C) (x y : X) (p : ℕ) → Good x → Good y → ((p : ℕ) → reads c p ≡ true → place x p ≡ place y p)
+      → (reaches c ≡ true → shared x ≡ shared y)
       → (rewrites c p ≡ true) ⊎ (place x p ≡ place y p) → place (does c x .after) p ≡ place (does c y .after) p
   after-one c x y p gx gy a s h = go (tested (rewrites c p)) h
     where
-      go : (rewrites c p ≡ true) ⊎ (rewrites c p ≡ false) → (rewrites c p ≡ true) ⊎ (place x p ≡ place y p) → place (does c x .after) p ≡ place (does c y .after) p
+      go : (rewrites c p ≡ true) ⊎ (rewrites c p ≡ false) → (rewrites c p ≡ true) ⊎ (place x p ≡ place y p)
+          → place (does c x .after) p ≡ place (does c y .after) p
       go (inl t) h = owed .renews c x y p gx gy a s t
       go (inr f) (inl t) = owed .renews c x y p gx gy a s t
       go (inr f) (inr e) = owed .keeps c x p gx f ∙ e ∙ sym (owed .keeps c y p gy f)
@@ -49,7 +54,8 @@ module _ {C A X S Z : Type 0} (reads rewrites : C → ℕ → Bool) (reaches : C
   unfolding Agree exposed
   reads-agree c cs x y a p h = a p (or-left (reads c p) (not (rewrites c p) && exposed reads rewrites cs p) h)
 
-  rest-agree : (c : C) (cs : List C) (x y : X) → Good x → Good y → shared x ≡ shared y → Agree (c ∷ cs) x y → Agree cs (does c x .after) (does c y .after)
+  rest-agree : (c : C) (cs : List C) (x y : X) → Good x → Good y → shared x ≡ shared y → Agree (c ∷ cs) x y
+      → Agree cs (does c x .after) (does c y .after)
   unfolding Agree exposed
   rest-agree c cs x y gx gy s a p h = go (tested (rewrites c p))
     where
@@ -76,7 +82,8 @@ module _ {C A X S Z : Type 0} (reads rewrites : C → ℕ → Bool) (reaches : C
   settled [] x y p gx gy s a (inl t) = let w : place x p ≡ place y p = cc in w
   settled [] x y p gx gy s a (inr e) = e
   settled (c ∷ cs) x y p gx gy s a h =
-      settled cs (does c x .after) (does c y .after) p (owed .good c x gx) (owed .good c y gy) (owed .moves c x y gx gy ra s) (rest-agree c cs x y gx gy s a)
+      settled cs (does c x .after) (does c y .after) p (owed .good c x gx) (owed .good c y gy) (owed .moves c x y gx gy ra s)
+      (rest-agree c cs x y gx gy s a)
       (go (tested (rewrites c p)) h)
     where
       ra : (p : ℕ) → reads c p ≡ true → place x p ≡ place y p
@@ -99,7 +106,8 @@ module _ {C A X S Z : Type 0} (reads rewrites : C → ℕ → Bool) (reaches : C
         keeps-other = λ p h. kept cs y p gy h;
       }
     where
-      which : (p : ℕ) → (rewritten rewrites cs p ≡ true) ⊎ (rewritten rewrites cs p ≡ false) → (exposed reads rewrites cs p || rewritten rewrites cs p) ≡ true
+      which : (p : ℕ) → (rewritten rewrites cs p ≡ true) ⊎ (rewritten rewrites cs p ≡ false)
+          → (exposed reads rewrites cs p || rewritten rewrites cs p) ≡ true
           → (rewritten rewrites cs p ≡ true) ⊎ (place x p ≡ place y p)
       which p (inl t) h = inl t
       which p (inr f) h = inr (a p (rw (f, or-false) at h))
@@ -127,12 +135,14 @@ module _ {C : Type 0} (reads rewrites : C → ℕ → Bool) where
             earlier = simp (w, e .earlier);
           }
 
-  exposed-here : (b : List C) (c : C) (a : List C) (p : ℕ) → reads c p ≡ true → rewritten rewrites b p ≡ false → exposed reads rewrites (b ++ c ∷ a) p ≡ true
+  exposed-here : (b : List C) (c : C) (a : List C) (p : ℕ) → reads c p ≡ true → rewritten rewrites b p ≡ false
+      → exposed reads rewrites (b ++ c ∷ a) p ≡ true
   unfolding exposed rewritten
   exposed-here [] c a p r w = simp r
   exposed-here (d ∷ b) c a p r w =
       or-right (reads d p) (not (rewrites d p) && exposed reads rewrites (b ++ c ∷ a) p)
-      (simp (or-none-left (rewrites d p) (rewritten rewrites b p) w) (exposed-here b c a p r (or-none-right (rewrites d p) (rewritten rewrites b p) w)))
+      (simp (or-none-left (rewrites d p) (rewritten rewrites b p) w)
+      (exposed-here b c a p r (or-none-right (rewrites d p) (rewritten rewrites b p) w)))
 
   pub exposed-if : (cs : List C) (p : ℕ) → Exposes reads rewrites cs p → exposed reads rewrites cs p ≡ true
   exposed-if cs p e = rw (e .is) (exposed-here (e .before) (e .call) (e .after) p (e .does) (e .earlier))

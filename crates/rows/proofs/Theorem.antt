@@ -1,5 +1,5 @@
--- Demand 3: the theorem on forgotten readers for the calls of 01's table, and exposed as the demand says it. The theorem is the generic one with
--- what each call owes. Assumes nothing.
+-- Demand 3: the theorem on forgotten readers for the calls of 01's table, and exposed as the demand says it. The theorem is the generic
+-- one with what each call owes. Assumes nothing.
 use mathlib.Core.Bool.{true, false}
 use mathlib.Core.List.{List, [], _∷_}
 use mathlib.Core.Path.{_≡_, refl, sym, _∙_}
@@ -39,19 +39,29 @@ exposed-where acts p e = exposed-if reads rewrites acts p e
 pub none-exposed-above : (acts : List Act) (p : ℕ) → 182 ≤ p → exposed reads rewrites acts p ≡ false
 unfolding exposed reads rewrites
 none-exposed-above [] p h = refl
-none-exposed-above (a ∷ rest) p h = simp (none-above (readsOf (a .call)) p (reads-inside (a .call)) h, none-above (rewritesOf (a .call)) p (rewrites-inside (a .call)) h) (none-exposed-above rest p h)
+none-exposed-above (a ∷ rest) p h =
+    simp (
+      none-above (readsOf (a .call)) p (reads-inside (a .call)) h,
+      none-above (rewritesOf (a .call)) p (rewrites-inside (a .call))
+          h,
+    ) (none-exposed-above rest p h)
 
 pub none-rewritten-above : (acts : List Act) (p : ℕ) → 182 ≤ p → rewritten rewrites acts p ≡ false
 unfolding rewritten rewrites
 none-rewritten-above [] p h = refl
-none-rewritten-above (a ∷ rest) p h = simp (none-above (rewritesOf (a .call)) p (rewrites-inside (a .call)) h) (none-rewritten-above rest p h)
+none-rewritten-above (a ∷ rest) p h =
+    simp (none-above (rewritesOf (a .call)) p (rewrites-inside (a .call)) h) (none-rewritten-above rest p h)
 
 -- so that whatever the list, the rest of the machine keeps what it had
-pub rest-kept : (acts : List Act) (x : State) (p : ℕ) → Sound (x .machine) → 182 ≤ p → place (end does acts x .machine) p ≡ place (x .machine) p
+pub rest-kept : (acts : List Act) (x : State) (p : ℕ) → Sound (x .machine) → 182 ≤ p
+    → place (end does acts x .machine) p ≡ place (x .machine) p
 rest-kept acts x p g h = kept reads rewrites reachesMemory does storeIn placeIn SoundState owed acts x p g (none-rewritten-above acts p h)
 
-pub tables-kept : (acts : List Act) (x : State) → Sound (x .machine) → (end does acts x .machine .gdt ≡ x .machine .gdt) × (end does acts x .machine .idt ≡ x .machine .idt)
+pub tables-kept : (acts : List Act) (x : State) → Sound (x .machine)
+    → (end does acts x .machine .gdt ≡ x .machine .gdt) × (end does acts x .machine .idt ≡ x .machine .idt)
 tables-kept acts x g = (
-  sym (place-rest (end does acts x .machine) 186 (omega arith)) ∙ rest-kept acts x 186 g (omega arith) ∙ place-rest (x .machine) 186 (omega arith),
-  sym (place-rest (end does acts x .machine) 187 (omega arith)) ∙ rest-kept acts x 187 g (omega arith) ∙ place-rest (x .machine) 187 (omega arith),
+  sym (place-rest (end does acts x .machine) 186 (omega arith)) ∙ rest-kept acts x 186 g (omega arith)
+      ∙ place-rest (x .machine) 186 (omega arith),
+  sym (place-rest (end does acts x .machine) 187 (omega arith)) ∙ rest-kept acts x 187 g (omega arith)
+      ∙ place-rest (x .machine) 187 (omega arith),
 )

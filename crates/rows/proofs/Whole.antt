@@ -1,5 +1,5 @@
--- A machine of Rattle is its places: two that agree on the 182 places, on the other bits of rflags, on gdt and on idt are one machine. A word is
--- its eight lanes, and rflags its ten fields. So "elsewhere each keeps what it had" speaks of the whole machine. Assumes nothing.
+-- A machine of Rattle is its places: two that agree on the 182 places, on the other bits of rflags, on gdt and on idt are one machine. A
+-- word is its eight lanes, and rflags its ten fields. So "elsewhere each keeps what it had" speaks of the whole machine. Assumes nothing.
 use mathlib.Core.Path.{_≡_, sym, ap₂, _∙_}
 use Prim.Native.Nat.{ℕ, _+_, _-_, _*_, _^_, _≤_, _<_}
 use native.Mathlib.Omega.{arith}
@@ -15,7 +15,8 @@ join : (w v f a b : ℕ) → cut w f a ≡ cut v f a → cut w (f + a) b ≡ cut
 join w v f a b x y = cut-add w f a b ∙ ap₂ (λ (u t : ℕ). u * 2 ^ a + t) y x ∙ sym (cut-add v f a b)
 
 module _ (m n : MachineState) (gm : Sound m) (gn : Sound n) (same : (p : ℕ) → place m p ≡ place n p) where
-  field : (p : ℕ) → 176 ≤ p → p < 186 → cut (m .rflags) (bitAt (p - 176)) (bitsAt (p - 176)) ≡ cut (n .rflags) (bitAt (p - 176)) (bitsAt (p - 176))
+  field : (p : ℕ) → 176 ≤ p → p < 186
+      → cut (m .rflags) (bitAt (p - 176)) (bitsAt (p - 176)) ≡ cut (n .rflags) (bitAt (p - 176)) (bitsAt (p - 176))
   field p a b = sym (place-bits m p a b) ∙ same p ∙ place-bits n p a b
 
   -- from bit 0 up: Carry, bit 1, Parity, bits 3 to 5, Zero, Sign, bits 8 and 9, Direction, Overflow, bits 12 to 63
@@ -37,7 +38,8 @@ module _ (m n : MachineState) (gm : Sound m) (gn : Sound n) (same : (p : ℕ) �
 
   registers-whole : m .regs ≡ n .regs
   registers-whole =
-      ext-getD 0 (m .regs) (n .regs) (gm .parents ∙ sym (gn .parents)) (λ i l. parent-same m n i (omega (arith, gm .parents)) gm gn (λ p h. same p))
+      ext-getD 0 (m .regs) (n .regs) (gm .parents ∙ sym (gn .parents))
+      (λ i l. parent-same m n i (omega (arith, gm .parents)) gm gn (λ p h. same p))
 
   pub whole : m ≡ n
   whole =

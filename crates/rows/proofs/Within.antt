@@ -28,7 +28,9 @@ in-yes s p a b = simp (le-leb (s .start) p a, lt-ltb p (s .start + s .count) b)
 
 pub in-no : (s : Span) (p : ℕ) → inSpan s p ≡ false → (p < s .start) ⊎ (s .start + s .count ≤ p)
 unfolding inSpan
-in-no s p h = ⊎-elim (λ e. inl (leb-false (s .start) p e)) (λ e. inr (ltb-false p (s .start + s .count) e)) (and-none (leb (s .start) p) (ltb p (s .start + s .count)) h)
+in-no s p h =
+    ⊎-elim (λ e. inl (leb-false (s .start) p e)) (λ e. inr (ltb-false p (s .start + s .count) e))
+    (and-none (leb (s .start) p) (ltb p (s .start + s .count)) h)
 
 pub in-out : (s : Span) (p : ℕ) → (p < s .start) ⊎ (s .start + s .count ≤ p) → inSpan s p ≡ false
 unfolding inSpan

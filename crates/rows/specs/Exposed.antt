@@ -1,5 +1,5 @@
--- Exposed and rewritten places of a list of calls, and the theorem on forgotten readers, over any kind of call, answer and state. The demand is
--- demand 3 of the request: "A place is exposed if some call reads it and no earlier call has rewritten it."
+-- Exposed and rewritten places of a list of calls, and the theorem on forgotten readers, over any kind of call, answer and state. The
+-- demand is demand 3 of the request: "A place is exposed if some call reads it and no earlier call has rewritten it."
 use mathlib.Core.Bool.{Bool, true, false, not, _&&_, _||_}
 use mathlib.Core.List.{List, [], _∷_, _++_}
 use mathlib.Core.Path.{_≡_}

@@ -39,7 +39,8 @@ pub record Sound (m : MachineState) : Type 0 where
   pub flags : m .rflags < 2 ^ 64
   pub tables : (m .gdt < 2 ^ 64) × (m .idt < 2 ^ 64)
 
--- a call of a list, "arguments fixed beforehand": the bytes that push and write memory write, or the buffer that read memory fills, are lent to it
+-- a call of a list, "arguments fixed beforehand": the bytes that push and write memory write, or the buffer that read memory fills, are
+-- lent to it
 pub record Act : Type 0 where
   pub call : Call
   pub lent : List ℕ

@@ -1,5 +1,6 @@
--- Document 01's table, "Places and calls": which places each call reads and rewrites, and whether it reaches memory. "Rows hold whether or not
--- the call is refused." What a call does (`step` of crate calls) knows nothing of this; the rows are proved of it in proofs/Owed.antt.
+-- Document 01's table, "Places and calls": which places each call reads and rewrites, and whether it reaches memory. "Rows hold whether
+-- or not the call is refused." What a call does (`step` of crate calls) knows nothing of this; the rows are proved of it in
+-- proofs/Owed.antt.
 use mathlib.Core.Bool.{Bool, true, false, _&&_, _||_}
 use Prim.Native.Nat.{ℕ, _+_, _*_, _≤_}
 use lib.Dec.{ltb, leb}

@@ -41,7 +41,9 @@ pub record Put (ok : Bool) (l : List ℕ) (at : ℕ) (f : ℕ → ℕ) (n : ℕ)
 -- the word whose low byte stands at a place; past the last whole word there are zeros
 unfoldable pub wordFrom : List ℕ → ℕ → ℕ
 wordFrom b at =
-    fromBytes (getD b at 0 ∷ getD b (at + 1) 0 ∷ getD b (at + 2) 0 ∷ getD b (at + 3) 0 ∷ getD b (at + 4) 0 ∷ getD b (at + 5) 0 ∷ getD b (at + 6) 0 ∷ getD b (at + 7) 0 ∷ [])
+    fromBytes
+    (getD b at 0 ∷ getD b (at + 1) 0 ∷ getD b (at + 2) 0 ∷ getD b (at + 3) 0
+    ∷ getD b (at + 4) 0 ∷ getD b (at + 5) 0 ∷ getD b (at + 6) 0 ∷ getD b (at + 7) 0 ∷ [])
 
 unfoldable pub wordIn : List ℕ → ℕ → ℕ
 wordIn b at = cond (room (length b) at 8) (wordFrom b at) 0

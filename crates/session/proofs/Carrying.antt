@@ -1,4 +1,5 @@
--- What is left: a call's answer as a record's, and a record that leaves the machine. By the equations of the contracts below. Assumes nothing.
+-- What is left: a call's answer as a record's, and a record that leaves the machine. By the equations of the contracts below. Assumes
+-- nothing.
 use mathlib.Core.List.{List, []}
 use mathlib.Core.Path.{_≡_, refl, sym, ap, subst, _∙_}
 use Prim.Native.Nat.{ℕ}
@@ -18,7 +19,8 @@ use Rattle.session.specs.declared.Carried.{Carried}
 pub by-kind : {n k : ℕ} (j : ℕ) → n ≡ k → eqb n j ≡ eqb k j
 by-kind j e = ap (λ (i : ℕ). eqb i j) e
 
-pub call-left : {a : After} (x : Answered) {dir bytes lent : List ℕ} {g : ℕ} {c : Carried} → left x dir bytes lent ≡ a → c ≡ carriedBy x g → Leaves a g c (storeOf dir bytes (c .used)) lent
+pub call-left : {a : After} (x : Answered) {dir bytes lent : List ℕ} {g : ℕ} {c : Carried} → left x dir bytes lent ≡ a
+    → c ≡ carriedBy x g → Leaves a g c (storeOf dir bytes (c .used)) lent
 call-left x {dir} {bytes} {g = g} e k = record {
   machine = ap (λ (c : Carried). c .machine) k ∙ ap (λ (a : After). a .machine) e;
   event = ap (λ (c : Carried). c .event) k ∙ ap (λ (a : After). a .event) e;
@@ -28,7 +30,8 @@ call-left x {dir} {bytes} {g = g} e k = record {
 }
 
 -- a call to which nothing is lent
-pub beside-left : {a : After} (x : Answered) {dir bytes l : List ℕ} {g : ℕ} {c : Carried} → left x dir bytes [] ≡ a → c ≡ carriedBy x g → Leaves (beside l a) g c (storeOf dir bytes (c .used)) l
+pub beside-left : {a : After} (x : Answered) {dir bytes l : List ℕ} {g : ℕ} {c : Carried} → left x dir bytes [] ≡ a → c ≡ carriedBy x g
+    → Leaves (beside l a) g c (storeOf dir bytes (c .used)) l
 beside-left x e k =
     let w = call-left x e k in
     record { machine = w .machine; event = w .event; reply = w .reply; store = w .store; lent = refl }

@@ -19,10 +19,12 @@ bool-byte true = refl
 bool-byte false = refl
 
 -- bytes are put where there is room for them, and not where there is none
-pub given-none : {ok b : Bool} {g at n : ℕ} {d d′ : List ℕ} {f : ℕ → ℕ} {r : Reply} → Put ok d at f n d′ b → not b ≡ true → r ≡ noReply → Given ok g d at f n r d′
+pub given-none : {ok b : Bool} {g at n : ℕ} {d d′ : List ℕ} {f : ℕ → ℕ} {r : Reply} → Put ok d at f n d′ b → not b ≡ true → r ≡ noReply
+    → Given ok g d at f n r d′
 given-none {b = b} p t e = record { reply = rw (sym (p .done) ∙ not-true b t) e; bytes = p .bytes }
 
-pub given-done : {ok b : Bool} {g at n : ℕ} {d d′ : List ℕ} {f : ℕ → ℕ} {r : Reply} → Put ok d at f n d′ b → not b ≡ false → r ≡ replyOf (gives []) g → Given ok g d at f n r d′
+pub given-done : {ok b : Bool} {g at n : ℕ} {d d′ : List ℕ} {f : ℕ → ℕ} {r : Reply} → Put ok d at f n d′ b → not b ≡ false
+    → r ≡ replyOf (gives []) g → Given ok g d at f n r d′
 given-done {b = b} p t e = record { reply = rw (sym (p .done) ∙ not-false b t) e; bytes = p .bytes }
 
 -- a text that was said is the one that was asked for

@@ -63,16 +63,19 @@ module _ (h : Header) (l : List ℕ) where
   is-whole a b d = rw (le-leb (h .length / 128) 64 a, b, le-leb 182 (length l) d)
 
 -- what the report says is what is answered
-pub report-reply : {r : Reply} (p : Report) (cs : List CallEntry) (n : ℕ) → reportOutcome p ≡ reported cs n → r ≡ replyOf (passed (verdictOutcome (p .verdict))) 182
+pub report-reply : {r : Reply} (p : Report) (cs : List CallEntry) (n : ℕ) → reportOutcome p ≡ reported cs n
+    → r ≡ replyOf (passed (verdictOutcome (p .verdict))) 182
     → r ≡ replyOf (passed (reported cs n .outcome)) 182
 report-reply p cs n e h = h ∙ ap (λ (s : Says). replyOf (passed (s .outcome)) 182) e
 
-pub report-bytes : (l : List ℕ) {l′ : List ℕ} (p : Report) (cs : List CallEntry) (n : ℕ) → reportOutcome p ≡ reported cs n → l′ ≡ filled l 0 (placeByte (p .places)) 182
+pub report-bytes : (l : List ℕ) {l′ : List ℕ} (p : Report) (cs : List CallEntry) (n : ℕ) → reportOutcome p ≡ reported cs n
+    → l′ ≡ filled l 0 (placeByte (p .places)) 182
     → l′ ≡ filled l 0 (placeByte (reported cs n .places)) 182
 report-bytes l p cs n e h = h ∙ ap (λ (s : Says). filled l 0 (placeByte (s .places)) 182) e
 
 -- one place more
-pub place-more : (l : List ℕ) (ps : List Bool) {d : List ℕ} (k : ℕ) → d ≡ filled l 0 (placeByte ps) k → set d k (boolByte (getD ps k false)) ≡ filled l 0 (placeByte ps) (k + 1)
+pub place-more : (l : List ℕ) (ps : List Bool) {d : List ℕ} (k : ℕ) → d ≡ filled l 0 (placeByte ps) k
+    → set d k (boolByte (getD ps k false)) ≡ filled l 0 (placeByte ps) (k + 1)
 place-more l ps {d} k e =
     ap (λ (x : List ℕ). set x k (boolByte (getD ps k false))) e
     ∙ ap (λ (b : ℕ). set (filled l 0 (placeByte ps) k) k b) (bool-byte (getD ps k false))

@@ -53,14 +53,17 @@ machine-given m {l} {d} {l′} n h p q e = record { reply = rw yes e; bytes = rw
     all =
         second
         ∙ filled-ext d 176 (laneIn others) (λ (k : ℕ). machineByte m (176 + k)) 24 high
-        ∙ ap (λ (x : List ℕ). filled x 176 (λ (k : ℕ). machineByte m (176 + k)) 24) (first ∙ filled-ext l 0 (laneIn (m .regs)) (machineByte m) 176 low)
+        ∙ ap (λ (x : List ℕ). filled x 176 (λ (k : ℕ). machineByte m (176 + k)) 24)
+        (first ∙ filled-ext l 0 (laneIn (m .regs)) (machineByte m) 176 low)
         ∙ filled-add l 0 (machineByte m) 176 24
 
-pub view-empty : {l l′ : List ℕ} {r : Reply} (v : List ℕ) (from n : ℕ) → length v ≡ 0 → r ≡ replyOf (refuses 4) 0 → l′ ≡ l → ViewGiven v from n l r l′
+pub view-empty : {l l′ : List ℕ} {r : Reply} (v : List ℕ) (from n : ℕ) → length v ≡ 0 → r ≡ replyOf (refuses 4) 0 → l′ ≡ l
+    → ViewGiven v from n l r l′
 view-empty [] from n z e s = (e, s)
 view-empty (b ∷ bs) from n z e s = absurd (omega (arith, z))
 
-pub view-some : {l l′ : List ℕ} {r : Reply} (v : List ℕ) (from n : ℕ) → (length v ≡ 0 → ⊥) → BytesGiven v from n l r l′ → ViewGiven v from n l r l′
+pub view-some : {l l′ : List ℕ} {r : Reply} (v : List ℕ) (from n : ℕ) → (length v ≡ 0 → ⊥) → BytesGiven v from n l r l′
+    → ViewGiven v from n l r l′
 view-some [] from n z g = absurd (z refl)
 view-some (b ∷ bs) from n z g = g
 

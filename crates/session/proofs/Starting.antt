@@ -16,29 +16,42 @@ use Rattle.records.specs.declared.Header.{Header}
 use Rattle.session.specs.Starts.{Starts, noStart, fitting}
 use Rattle.session.specs.declared.Start.{Start}
 
-no-start : {h : Header} {b dir bytes dir′ bytes′ : List ℕ} {r : Start} → fitting h b dir bytes ≡ false → r ≡ noStart → dir′ ≡ dir → bytes′ ≡ bytes → Starts h b dir bytes r dir′ bytes′
+no-start : {h : Header} {b dir bytes dir′ bytes′ : List ℕ} {r : Start} → fitting h b dir bytes ≡ false → r ≡ noStart → dir′ ≡ dir
+    → bytes′ ≡ bytes → Starts h b dir bytes r dir′ bytes′
 no-start f e d s = record { start = rw f e; directory = rw f d; fill = rw f s }
 
 -- the bytes are too few
-pub few-bytes : {h : Header} {b dir bytes dir′ bytes′ : List ℕ} {r : Start} → length bytes < h .b → r ≡ noStart → dir′ ≡ dir → bytes′ ≡ bytes → Starts h b dir bytes r dir′ bytes′
+pub few-bytes : {h : Header} {b dir bytes dir′ bytes′ : List ℕ} {r : Start} → length bytes < h .b → r ≡ noStart → dir′ ≡ dir
+    → bytes′ ≡ bytes → Starts h b dir bytes r dir′ bytes′
 few-bytes {h} {b} {dir} {bytes} lt e d s =
-    no-start (first-fails (room (length dir) 0 (h .a) && room (length b) 200 (8 * h .a)) (room-no (length bytes) 0 (h .b) (omega (arith, lt)))) e d s
+    no-start (first-fails (room (length dir) 0 (h .a) && room (length b) 200 (8 * h .a))
+    (room-no (length bytes) 0 (h .b) (omega (arith, lt)))) e d s
 
 -- the slots are, or the block is
 pub few-slots : {h : Header} {b dir bytes dir′ bytes′ : List ℕ} {r : Start} {ok : Bool} → h .b ≤ length bytes
-    → Put (room (length dir) 0 (h .a) && room (length b) 200 (8 * h .a)) dir 0 (λ (k : ℕ). wordIn b (200 + 8 * k)) (h .a) dir′ ok → not ok ≡ true
+    → Put (room (length dir) 0 (h .a) && room (length b) 200 (8 * h .a)) dir 0 (λ (k : ℕ). wordIn b (200 + 8 * k)) (h .a) dir′ ok
+    → not ok ≡ true
     → r ≡ noStart → bytes′ ≡ bytes → Starts h b dir bytes r dir′ bytes′
 few-slots {h} {b} {dir} {bytes} {ok = ok} le p t e s =
     let no = sym (p .done) ∙ not-true ok t in
-    no-start (second-fails (room-yes (length bytes) 0 (h .b) (omega (arith, le))) no) e (p .bytes ∙ ap (λ (t : Bool). over t dir 0 (λ (k : ℕ). wordIn b (200 + 8 * k)) (h .a)) no) s
+    no-start (second-fails (room-yes (length bytes) 0 (h .b) (omega (arith, le))) no) e
+    (p .bytes ∙ ap (λ (t : Bool). over t dir 0 (λ (k : ℕ). wordIn b (200 + 8 * k)) (h .a)) no) s
 
 -- there is room for all of it: of the block the machine takes the first 200 bytes
 pub started : {h : Header} {b dir bytes dir′ bytes′ g : List ℕ} {f d i : ℕ} {ok ok₂ ok₃ : Bool} → h .b ≤ length bytes
-    → Put (room (length dir) 0 (h .a) && room (length b) 200 (8 * h .a)) dir 0 (λ (k : ℕ). wordIn b (200 + 8 * k)) (h .a) dir′ ok → not ok ≡ false
+    → Put (room (length dir) 0 (h .a) && room (length b) 200 (8 * h .a)) dir 0 (λ (k : ℕ). wordIn b (200 + 8 * k)) (h .a) dir′ ok
+    → not ok ≡ false
     → Put (room (length bytes) 0 (h .b)) bytes 0 (λ (k : ℕ). h .c % 256) (h .b) bytes′ ok₂
     → Put (room 22 0 22 && room (length b) 0 176) (replicate 22 0) 0 (λ (k : ℕ). wordIn b (0 + 8 * k)) 22 g ok₃
     → f ≡ wordIn b 176 → d ≡ wordIn b 184 → i ≡ wordIn b 192
-    → Starts h b dir bytes (record { formed = true; machine = record { regs = g; rflags = f; gdt = d; idt = i }; slots = h .a; length = h .b; used = h .size }) dir′ bytes′
+    → Starts h b dir bytes
+    (record {
+      formed = true;
+      machine = record { regs = g; rflags = f; gdt = d; idt = i };
+      slots = h .a;
+      length = h .b;
+      used = h .size;
+    }) dir′ bytes′
 started {h} {b} {dir} {bytes} {dir′} {bytes′} {g} {ok = ok} le p t q s ef ed ei =
     record { start = rw (fits, regs, ef, ed, ei); directory = rw fits (put-was p yes); fill = rw fits (put-was q enough) }
   where
@@ -52,9 +65,11 @@ started {h} {b} {dir} {bytes} {dir′} {bytes′} {g} {ok = ok} le p t q s ef ed
     fits = both enough yes
 
     long : 200 ≤ length b
-    long = let n = room-le (length b) 200 (8 * h .a) (and-right (room (length dir) 0 (h .a)) (room (length b) 200 (8 * h .a)) yes) in omega (arith, n)
+    long = let n = room-le (length b) 200 (8 * h .a) (and-right (room (length dir) 0 (h .a)) (room (length b) 200 (8 * h .a)) yes) in
+        omega (arith, n)
 
     regs : g ≡ filled (replicate 22 0) 0 (λ (k : ℕ). wordIn b (8 * k)) 22
     regs =
         put-was s (both (room-yes 22 0 22 (omega arith)) (room-yes (length b) 0 176 (omega (arith, long))))
-        ∙ filled-ext (replicate 22 0) 0 (λ (k : ℕ). wordIn b (0 + 8 * k)) (λ (k : ℕ). wordIn b (8 * k)) 22 (λ k lt. ap (wordIn b) (zero-add (8 * k)))
+        ∙ filled-ext (replicate 22 0) 0 (λ (k : ℕ). wordIn b (0 + 8 * k)) (λ (k : ℕ). wordIn b (8 * k)) 22
+        (λ k lt. ap (wordIn b) (zero-add (8 * k)))

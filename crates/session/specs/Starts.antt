@@ -1,5 +1,5 @@
--- Kind 24 (docs/FORMAT.md), a reset: "a slots, b bytes of the store, size: the count in use, any number; c: the byte that fills the store. The block is 25
--- words (22 parents in 01's order, rflags, gdt, idt), then the directory".
+-- Kind 24 (docs/FORMAT.md), a reset: "a slots, b bytes of the store, size: the count in use, any number; c: the byte that fills the
+-- store. The block is 25 words (22 parents in 01's order, rflags, gdt, idt), then the directory".
 use mathlib.Core.Bool.{Bool, true, false, cond, _&&_}
 use mathlib.Core.List.{List}
 use mathlib.Core.Path.{_≡_}

@@ -1,4 +1,5 @@
--- Kinds 32 to 37 (docs/FORMAT.md, "Texts and the report"): "The answer's value is the text's length, and the whole buffer follows, refused or not".
+-- Kinds 32 to 37 (docs/FORMAT.md, "Texts and the report"): "The answer's value is the text's length, and the whole buffer follows,
+-- refused or not".
 use mathlib.Core.Bool.{cond}
 use mathlib.Core.List.{List}
 use mathlib.Core.Path.{_≡_}

@@ -22,14 +22,17 @@ line-most regs r = simp (length-append, length-replicate) (omega (arith, name-mo
 pub lines-most : (regs : List ℕ) (rs : List Register) → length (linesAfter regs rs) ≤ 34 * length rs
 unfolding linesAfter
 lines-most regs [] = omega arith
-lines-most regs (r ∷ rs) = let h = lines-most regs rs in let l = line-most regs r in omega (arith, length-append (ascii "\n") (lineOf regs r ++ linesAfter regs rs), length-append (lineOf regs r) (linesAfter regs rs))
+lines-most regs (r ∷ rs) = let h = lines-most regs rs in let l = line-most regs r in
+    omega (arith, length-append (ascii "\n") (lineOf regs r ++ linesAfter regs rs), length-append (lineOf regs r) (linesAfter regs rs))
 
 pub state-most : (m : MachineState) → length (stateText m) ≤ 577
 state-most m = joined 33 544 (lineOf (m .regs) RAX) (linesAfter (m .regs) others) (line-most (m .regs) RAX) (lines-most (m .regs) others)
 
 pub event-most : (e : Event) → length (eventText e) ≤ 21
 event-most event.Quiet = omega arith
-event-most (event.Control r v) = either 21 (ltb (parentOf r) 17) [] (ascii "CR" ++ ((labelOf r ∷ []) ++ (ascii ": " ++ hexText v))) (omega arith) (let h = hex-most v in omega arith)
+event-most (event.Control r v) =
+    either 21 (ltb (parentOf r) 17) [] (ascii "CR" ++ ((labelOf r ∷ []) ++ (ascii ": " ++ hexText v))) (omega arith)
+    (let h = hex-most v in omega arith)
 event-most (event.Video b) =
     let h : length (utf8 b) ≤ 2 = either 2 (ltb b 128) (b ∷ []) ((192 + b / 64) ∷ (128 + b % 64) ∷ []) (omega arith) (omega arith) in
     omega arith

@@ -18,7 +18,8 @@ unfolding row
 labels = refl
 
 -- event lines: CR8 -1, and the byte 0xe9
-pub event-lines : eventText (Control CR8 18446744073709551615) ∷ eventText (Video 233) ∷ [] ≡ ascii "CR5: ffffffffffffffff" ∷ ascii "VIDEO: Ã©" ∷ []
+pub event-lines : eventText (Control CR8 18446744073709551615) ∷ eventText (Video 233) ∷ []
+    ≡ ascii "CR5: ffffffffffffffff" ∷ ascii "VIDEO: Ã©" ∷ []
 unfolding row leadingZeros hexDigits
 event-lines = refl
 

@@ -14,7 +14,8 @@ pub slot-at : (l : List ℕ) (p n i : ℕ) → slotOf l p n ≡ At i → (p % 40
 unfolding slotOf
 slot-at l p n i e = go (leb (p % 4096 + n) 4096) refl e
   where
-    go : (b : Bool) → leb (p % 4096 + n) 4096 ≡ b → cond b (foundIn l (p / 4096)) Nothing ≡ At i → (p % 4096 + n ≤ 4096) × (foundIn l (p / 4096) ≡ At i)
+    go : (b : Bool) → leb (p % 4096 + n) 4096 ≡ b → cond b (foundIn l (p / 4096)) Nothing ≡ At i
+        → (p % 4096 + n ≤ 4096) × (foundIn l (p / 4096) ≡ At i)
     go true t q = (leb-true _ _ t, q)
     go false t q = let z : _≡_ {A = ℕ} 0 1 = cc in (omega arith, absurd (omega arith))
 
@@ -41,7 +42,8 @@ touched-pages p (suc m) h = let e : suc m - 1 ≡ m = omega arith in ap (pagesFr
 pub touched-none : (l : List ℕ) (p n : ℕ) → n ≡ 0 → 0 ≡ absentOf l (touched p n)
 touched-none l p n e = rw e (unfold touched absentOf in refl)
 
-pub pages-turn : (l : List ℕ) (g left : ℕ) → 0 < left → absentOf l (pagesFrom g left) ≡ lack (foundIn l g) + absentOf l (pagesFrom (g + 1) (left - 1))
+pub pages-turn : (l : List ℕ) (g left : ℕ) → 0 < left
+    → absentOf l (pagesFrom g left) ≡ lack (foundIn l g) + absentOf l (pagesFrom (g + 1) (left - 1))
 unfolding pagesFrom absentOf
 pages-turn l g zero h = absurd (omega arith)
 pages-turn l g (suc k) h = let e : suc k - 1 ≡ k = omega arith in rw e

@@ -1,5 +1,6 @@
--- What writing n bytes does, for any n that the store has room for: it stays a store, its count grows by the absent pages touched, the bytes written read as given,
--- every other byte and every slot not touched stay. By induction on the bytes: one byte takes a slot exactly if its page is absent, and the next bytes find it there.
+-- What writing n bytes does, for any n that the store has room for: it stays a store, its count grows by the absent pages touched, the
+-- bytes written read as given, every other byte and every slot not touched stay. By induction on the bytes: one byte takes a slot exactly
+-- if its page is absent, and the next bytes find it there.
 use mathlib.Core.Path.{_≡_, refl, sym, ap, _∙_}
 use mathlib.Core.Logic.{_⊎_, inl, inr, ⊎-elim}
 use mathlib.Core.List.{List, [], _∷_, _++_}
@@ -19,7 +20,8 @@ use Rattle.store.proofs.Read.{live-len, Place, here, missing, place, by
 use Rattle.store.proofs.Slot.{with-here, with-missing, found-taken, room-missing, sound-with, found-with, other-with, byte-with}
 
 -- ---- one byte, in a page that has a slot
-stored-at : (s : Store) (p i b : ℕ) → foundIn (live s) (p / 4096) ≡ At i → stored s p b ≡ storeOf (s .dir) (set (s .bytes) (4096 * i + p % 4096) b) (s .used)
+stored-at : (s : Store) (p i b : ℕ) → foundIn (live s) (p / 4096) ≡ At i
+    → stored s p b ≡ storeOf (s .dir) (set (s .bytes) (4096 * i + p % 4096) b) (s .used)
 unfolding stored
 stored-at s p i b e = rw (found-seek (live s) (p / 4096) i e .0)
 
@@ -59,7 +61,9 @@ module _ (s : Store) (h : Sound s) (p i b : ℕ) (e : foundIn (live s) (p / 4096
       go (missing w f) = byte-missing (storeOf (s .dir) (set (s .bytes) (4096 * i + p % 4096) b) (s .used)) q f ∙ sym (byte-missing s q f)
 
   sound-stored : Sound (stored s p b)
-  sound-stored = rw (stored-at s p i b e) (record { small = h .small; fits = h .fits; sized = length-set (s .bytes) (4096 * i + p % 4096) b ∙ h .sized })
+  sound-stored =
+      rw (stored-at s p i b e)
+      (record { small = h .small; fits = h .fits; sized = length-set (s .bytes) (4096 * i + p % 4096) b ∙ h .sized })
 
 -- ---- one byte, in a page that has a slot or room for one
 module _ (s : Store) (h : Sound s) (p b : ℕ) (r : Room s (p / 4096)) where
@@ -69,7 +73,8 @@ module _ (s : Store) (h : Sound s) (p b : ℕ) (r : Room s (p / 4096)) where
 
   put-other : (q : ℕ) → (q ≡ p → ⊥) → byteAt (putByte s p b) q ≡ byteAt s q
   unfolding putByte
-  put-other q ne = let w = found-with s h (p / 4096) r in stored-other (withPage s (p / 4096)) (sound-with s h (p / 4096) r) p (w .0) b (w .1) q ne ∙ byte-with s h (p / 4096) r q
+  put-other q ne = let w = found-with s h (p / 4096) r in
+      stored-other (withPage s (p / 4096)) (sound-with s h (p / 4096) r) p (w .0) b (w .1) q ne ∙ byte-with s h (p / 4096) r q
 
   put-sound : Sound (putByte s p b)
   unfolding putByte
@@ -85,7 +90,8 @@ module _ (s : Store) (h : Sound s) (p b : ℕ) (r : Room s (p / 4096)) where
   put-others k ne = other-with s h (p / 4096) r k ne
 
   -- a slot in use whose page is another keeps its bytes
-  put-keeps : (i o : ℕ) → i < s .used → o < 4096 → (p / 4096 ≡ getD (s .dir) i 0 → ⊥) → getD (putByte s p b .bytes) (4096 * i + o) 0 ≡ getD (s .bytes) (4096 * i + o) 0
+  put-keeps : (i o : ℕ) → i < s .used → o < 4096 → (p / 4096 ≡ getD (s .dir) i 0 → ⊥)
+      → getD (putByte s p b .bytes) (4096 * i + o) 0 ≡ getD (s .bytes) (4096 * i + o) 0
   unfolding putByte
   put-keeps i o lt lo ne = go (place s h (p / 4096))
     where
@@ -107,7 +113,8 @@ if-count : (s : Store) (g : ℕ) (f : Found) → (takenIf s g f .used ≡ s .use
 if-count s g (At i) = (omega arith, refl)
 if-count s g Nothing = (omega arith, length-set (s .dir) (s .used) g)
 
-put-count : (s : Store) (p b : ℕ) → (putByte s p b .used ≡ s .used + lack (foundIn (live s) (p / 4096))) × (length (putByte s p b .dir) ≡ length (s .dir))
+put-count : (s : Store) (p b : ℕ)
+    → (putByte s p b .used ≡ s .used + lack (foundIn (live s) (p / 4096))) × (length (putByte s p b .dir) ≡ length (s .dir))
 unfolding putByte stored withPage
 put-count s p b = if-count s (p / 4096) (foundIn (live s) (p / 4096))
 
@@ -148,7 +155,8 @@ touched-same : (p m : ℕ) → (p + suc m) / 4096 ≡ (p + m) / 4096 → touched
 unfolding touched
 touched-same p m e = rw e
 
-touched-next : (p m : ℕ) → ((p + suc m) / 4096 ≡ (p + m) / 4096 → ⊥) → touched p (suc (suc m)) ≡ touched p (suc m) ++ (((p + suc m) / 4096) ∷ [])
+touched-next : (p m : ℕ) → ((p + suc m) / 4096 ≡ (p + m) / 4096 → ⊥)
+    → touched p (suc (suc m)) ≡ touched p (suc m) ++ (((p + suc m) / 4096) ∷ [])
 unfolding touched
 touched-next p m ne =
     let j = (p + m) / 4096 - p / 4096 in
@@ -195,7 +203,8 @@ module _ (s : Store) (h : Sound s) (p : ℕ) (f : ℕ → ℕ) where
       let t = still n o′ in
       ⊎-elim
       (λ (e : suc k ≡ suc n). let q : k ≡ n = omega arith in rw q (put-same (written s p f n) (t .sound) (p + n) (f n) (room-at n o t)))
-      (λ (l : suc k < suc n). put-other (written s p f n) (t .sound) (p + n) (f n) (room-at n o t) (p + k) (λ c. omega arith) ∙ written-in n k o′ (omega arith))
+      (λ (l : suc k < suc n). put-other (written s p f n) (t .sound) (p + n) (f n) (room-at n o t) (p + k) (λ c. omega arith)
+      ∙ written-in n k o′ (omega arith))
       (eq-or-lt-of-le lt)
 
   pub written-out : (n q : ℕ) → written s p f n .used ≤ length (s .dir) → (q < p) ⊎ (p + n ≤ q) → byteAt (written s p f n) q ≡ byteAt s q
@@ -204,7 +213,8 @@ module _ (s : Store) (h : Sound s) (p : ℕ) (f : ℕ → ℕ) where
   written-out (suc n) q o w =
       let o′ = still-down n o in
       let t = still n o′ in
-      put-other (written s p f n) (t .sound) (p + n) (f n) (room-at n o t) q (λ c. ⊎-elim (λ (a : q < p). omega arith) (λ (b : p + suc n ≤ q). omega arith) w)
+      put-other (written s p f n) (t .sound) (p + n) (f n) (room-at n o t) q
+      (λ c. ⊎-elim (λ (a : q < p). omega arith) (λ (b : p + suc n ≤ q). omega arith) w)
       ∙ written-out n q o′ (⊎-elim (λ (a : q < p). inl a) (λ (b : p + suc n ≤ q). inr (omega arith)) w)
 
   -- a slot in use keeps its number, and its bytes too if no byte goes to its page
@@ -218,21 +228,24 @@ module _ (s : Store) (h : Sound s) (p : ℕ) (f : ℕ → ℕ) where
   written-number zero i lt = refl
   written-number (suc n) i lt = put-number (written s p f n) (p + n) (f n) i (omega (arith, grows n)) ∙ written-number n i lt
 
-  pub written-keeps : (n i o : ℕ) → written s p f n .used ≤ length (s .dir) → i < s .used → o < 4096 → ((k : ℕ) → k < n → (p + k) / 4096 ≡ getD (s .dir) i 0 → ⊥)
+  pub written-keeps : (n i o : ℕ) → written s p f n .used ≤ length (s .dir) → i < s .used → o < 4096
+      → ((k : ℕ) → k < n → (p + k) / 4096 ≡ getD (s .dir) i 0 → ⊥)
       → getD (written s p f n .bytes) (4096 * i + o) 0 ≡ getD (s .bytes) (4096 * i + o) 0
   unfolding written
   written-keeps zero i o u lt lo ne = refl
   written-keeps (suc n) i o u lt lo ne =
       let u′ = still-down n u in
       let t = still n u′ in
-      put-keeps (written s p f n) (t .sound) (p + n) (f n) (room-at n u t) i o (omega (arith, grows n)) lo (λ e. ne n (omega arith) (e ∙ written-number n i lt))
+      put-keeps (written s p f n) (t .sound) (p + n) (f n) (room-at n u t) i o (omega (arith, grows n)) lo
+      (λ e. ne n (omega arith) (e ∙ written-number n i lt))
       ∙ written-keeps n i o u′ lt lo (λ k l. ne k (omega arith))
 
   -- ---- the count
   abbrev absent : ℕ → ℕ
   absent n = absentOf (live s) (touched p n)
 
-  absent-next : (m : ℕ) → ((p + suc m) / 4096 ≡ (p + m) / 4096 → ⊥) → absent (suc (suc m)) ≡ absent (suc m) + lack (foundIn (live s) ((p + suc m) / 4096))
+  absent-next : (m : ℕ) → ((p + suc m) / 4096 ≡ (p + m) / 4096 → ⊥)
+      → absent (suc (suc m)) ≡ absent (suc m) + lack (foundIn (live s) ((p + suc m) / 4096))
   absent-next m ne =
       ap (absentOf (live s)) (touched-next p m ne)
       ∙ absent-both (live s) (touched p (suc m)) (((p + suc m) / 4096) ∷ [])
@@ -261,11 +274,13 @@ module _ (s : Store) (h : Sound s) (p : ℕ) (f : ℕ → ℕ) where
   unfolding written
   one-more zero g =
       let z : absent 0 ≡ 0 = unfold touched absentOf in refl in
-      let a : absent 1 ≡ lack (foundIn (live s) ((p + 0) / 4096)) = ap (absentOf (live s)) (touched-first p) ∙ absent-one (live s) ((p + 0) / 4096) in
+      let a : absent 1 ≡ lack (foundIn (live s) ((p + 0) / 4096)) =
+      ap (absentOf (live s)) (touched-first p) ∙ absent-one (live s) ((p + 0) / 4096) in
       omega arith
   one-more (suc m) g = go (ℕ-discrete ((p + suc m) / 4096) ((p + m) / 4096))
     where
-      go : Dec ((p + suc m) / 4096 ≡ (p + m) / 4096) → absent (suc (suc m)) ≡ absent (suc m) + lack (foundIn (live (written s p f (suc m))) ((p + suc m) / 4096))
+      go : Dec ((p + suc m) / 4096 ≡ (p + m) / 4096)
+          → absent (suc (suc m)) ≡ absent (suc m) + lack (foundIn (live (written s p f (suc m))) ((p + suc m) / 4096))
       go (yes e) =
           let z = g .inside m refl in
           let y = ap (λ (k : ℕ). lack (foundIn (live (written s p f (suc m))) k)) e in
@@ -292,5 +307,6 @@ module _ (s : Store) (h : Sound s) (p : ℕ) (f : ℕ → ℕ) where
         inside = λ m e. let q : n ≡ m = omega arith in rw (sym q) (put-found (written s p f n) (t .sound) (p + n) (f n) room);
       }
 
-  pub written-count : (n : ℕ) → s .used + absentOf (live s) (touched p n) ≤ length (s .dir) → written s p f n .used ≡ s .used + absentOf (live s) (touched p n)
+  pub written-count : (n : ℕ) → s .used + absentOf (live s) (touched p n) ≤ length (s .dir)
+      → written s p f n .used ≡ s .used + absentOf (live s) (touched p n)
   written-count n r = grown n r .count

@@ -1,7 +1,8 @@
--- Reading: a sound store's slots, what a byte is by the place of its page, and what one page's part of a read gives, whose page has a slot or is absent.
-use mathlib.Core.Path.{_≡_, refl, sym, ap, _∙_, subst}
+-- Reading: a sound store's slots, what a byte is by the place of its page, and what one page's part of a read gives, whose page has a
+-- slot or is absent.
+use mathlib.Core.Path.{_≡_, refl, sym, ap, _∙_}
 use mathlib.Core.Logic.{_⊎_, ⊎-elim}
-use mathlib.Core.Bool.{Bool, true, false, cond, _&&_}
+use mathlib.Core.Bool.{true, _&&_}
 use mathlib.Core.List.{List}
 use Prim.Native.Nat.{ℕ, _+_, _*_, _/_, _%_, _<_, _≤_}
 use native.Mathlib.Nat.{eq-or-lt-of-le, add-assoc}
@@ -39,7 +40,8 @@ sound-true s h = rw (le-leb _ _ (h .small), le-leb _ _ (h .fits), eq-eqb _ _ (h 
 pub live-len : (s : Store) → Sound s → length (live s) ≡ s .used
 live-len s h = go (take-short (s .used) (s .dir)) (take-long (s .used) (s .dir)) (eq-or-lt-of-le (take-short (s .used) (s .dir) .0))
   where
-    go : (length (live s) ≤ s .used) × (length (live s) ≤ length (s .dir)) → ((i : ℕ) → i < s .used → i < length (s .dir) → i < length (live s))
+    go : (length (live s) ≤ s .used) × (length (live s) ≤ length (s .dir))
+        → ((i : ℕ) → i < s .used → i < length (s .dir) → i < length (live s))
         → (length (live s) ≡ s .used) ⊎ (length (live s) < s .used) → length (live s) ≡ s .used
     go short long w = ⊎-elim (λ e. e) (λ lt. omega (arith, long (length (live s)) lt (omega (arith, h .fits)))) w
 
@@ -82,19 +84,23 @@ page-byte s g o h =
 
 -- ---- one page's part of a read, whose page is in slot i or absent
 module _ (s : Store) (g off : ℕ) (f : Found) (out o : List ℕ) (at n : ℕ) (ef : f ≡ foundIn (live s) g) (b : off + n ≤ 4096) where
-  pub part-copied : (i : ℕ) → f ≡ At i → o ≡ filled out at (bytesOf (s .bytes) (4096 * i + off)) n → o ≡ filled out at (bytesFrom s (4096 * g + off)) n
+  pub part-copied : (i : ℕ) → f ≡ At i → o ≡ filled out at (bytesOf (s .bytes) (4096 * i + off)) n
+      → o ≡ filled out at (bytesFrom s (4096 * g + off)) n
   part-copied i e eo = eo ∙ filled-ext out at (bytesOf (s .bytes) (4096 * i + off)) (bytesFrom s (4096 * g + off)) n same
     where
       same : (k : ℕ) → k < n → bytesOf (s .bytes) (4096 * i + off) k ≡ bytesFrom s (4096 * g + off) k
       same k lt =
           rw (add-assoc (4096 * g) off k)
-          (rw (add-assoc (4096 * i) off k) (sym (page-byte s g (off + k) (omega arith) ∙ ap (λ (x : Found). byteIn (s .bytes) x (off + k)) (sym ef ∙ e))))
+          (rw (add-assoc (4096 * i) off k)
+          (sym (page-byte s g (off + k) (omega arith) ∙ ap (λ (x : Found). byteIn (s .bytes) x (off + k)) (sym ef ∙ e))))
 
   pub part-cleared : f ≡ Nothing → o ≡ filled out at noBytes n → o ≡ filled out at (bytesFrom s (4096 * g + off)) n
   part-cleared e eo = eo ∙ filled-ext out at noBytes (bytesFrom s (4096 * g + off)) n same
     where
       same : (k : ℕ) → k < n → noBytes k ≡ bytesFrom s (4096 * g + off) k
-      same k lt = rw (add-assoc (4096 * g) off k) (sym (page-byte s g (off + k) (omega arith) ∙ ap (λ (x : Found). byteIn (s .bytes) x (off + k)) (sym ef ∙ e)))
+      same k lt =
+          rw (add-assoc (4096 * g) off k)
+          (sym (page-byte s g (off + k) (omega arith) ∙ ap (λ (x : Found). byteIn (s .bytes) x (off + k)) (sym ef ∙ e)))
 
 -- a byte of what a read gives
 pub read-at : (s : Store) (p n k : ℕ) → k < n → getD (readAt s p n) k 0 ≡ byteAt s (p + k)

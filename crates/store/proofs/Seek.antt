@@ -33,7 +33,8 @@ take-full n l (suc i) h m = omega (arith, take-long n l i (omega arith) (omega a
 pub seek-len : (l : List ℕ) (p : ℕ) → seek l p ≤ length l
 unfolding seek
 seek-len [] p = zero-le
-seek-len (x ∷ xs) p = elim (eqb x p) as (λ b. cond b 0 (suc (seek xs p)) ≤ suc (length xs)) [ true ↦ zero-le | false ↦ omega (arith, seek-len xs p) ]
+seek-len (x ∷ xs) p =
+    elim (eqb x p) as (λ b. cond b 0 (suc (seek xs p)) ≤ suc (length xs)) [ true ↦ zero-le | false ↦ omega (arith, seek-len xs p) ]
 
 -- what stands there
 pub seek-at : (l : List ℕ) (p : ℕ) → seek l p < length l → getD l (seek l p) 0 ≡ p
@@ -41,7 +42,8 @@ unfolding seek
 seek-at [] p h = omega arith
 seek-at (x ∷ xs) p h = go (λ k. seek-at xs p k) (eqb x p) refl h
   where
-    go : (seek xs p < length xs → getD xs (seek xs p) 0 ≡ p) → (b : Bool) → eqb x p ≡ b → cond b 0 (suc (seek xs p)) < suc (length xs) → getD (x ∷ xs) (cond b 0 (suc (seek xs p))) 0 ≡ p
+    go : (seek xs p < length xs → getD xs (seek xs p) 0 ≡ p) → (b : Bool) → eqb x p ≡ b → cond b 0 (suc (seek xs p)) < suc (length xs)
+        → getD (x ∷ xs) (cond b 0 (suc (seek xs p))) 0 ≡ p
     go ih true e k = eqb-true x p e
     go ih false e k = ih (omega arith)
 
@@ -50,7 +52,8 @@ pub seek-le : (l : List ℕ) (p i : ℕ) → i < length l → getD l i 0 ≡ p �
 unfolding seek
 seek-le [] p i h e = omega arith
 seek-le (x ∷ xs) p zero h e = rw (eq-eqb x p e) zero-le
-seek-le (x ∷ xs) p (suc i) h e = elim (eqb x p) as (λ b. cond b 0 (suc (seek xs p)) ≤ suc i) [ true ↦ zero-le | false ↦ omega (arith, seek-le xs p i (omega arith) e) ]
+seek-le (x ∷ xs) p (suc i) h e =
+    elim (eqb x p) as (λ b. cond b 0 (suc (seek xs p)) ≤ suc i) [ true ↦ zero-le | false ↦ omega (arith, seek-le xs p i (omega arith) e) ]
 
 -- one step of the search
 pub seek-more : (l : List ℕ) (p i : ℕ) → i ≤ seek l p → i < length l → (getD l i 0 ≡ p → ⊥) → i + 1 ≤ seek l p
@@ -72,7 +75,8 @@ seek-taken (suc n) [] p i h k m = omega arith
 seek-taken (suc n) (x ∷ l) p zero h k m = zero-le
 seek-taken (suc n) (x ∷ l) p (suc i) h k m = go (λ q. seek-taken n l p i q (omega arith) (omega arith)) (eqb x p) h
   where
-    go : (i ≤ seek l p → i ≤ seek (take n l) p) → (b : Bool) → suc i ≤ cond b 0 (suc (seek l p)) → suc i ≤ cond b 0 (suc (seek (take n l) p))
+    go : (i ≤ seek l p → i ≤ seek (take n l) p) → (b : Bool) → suc i ≤ cond b 0 (suc (seek l p))
+        → suc i ≤ cond b 0 (suc (seek (take n l) p))
     go ih true q = omega arith
     go ih false q = omega (arith, ih (omega arith))
 
@@ -106,7 +110,8 @@ unfolding seek
 seek-in [] m p h = omega arith
 seek-in (x ∷ l) m p h = go (λ k. seek-in l m p k) (eqb x p) h
   where
-    go : (seek l p < length l → seek (l ++ m) p ≡ seek l p) → (b : Bool) → cond b 0 (suc (seek l p)) < suc (length l) → cond b 0 (suc (seek (l ++ m) p)) ≡ cond b 0 (suc (seek l p))
+    go : (seek l p < length l → seek (l ++ m) p ≡ seek l p) → (b : Bool) → cond b 0 (suc (seek l p)) < suc (length l)
+        → cond b 0 (suc (seek (l ++ m) p)) ≡ cond b 0 (suc (seek l p))
     go ih true k = refl
     go ih false k = ap suc (ih (omega arith))
 
@@ -115,7 +120,8 @@ unfolding seek
 seek-past [] m p h = sym (zero-add (seek m p))
 seek-past (x ∷ l) m p h = go (λ k. seek-past l m p k) (eqb x p) h
   where
-    go : (length l ≤ seek l p → seek (l ++ m) p ≡ length l + seek m p) → (b : Bool) → suc (length l) ≤ cond b 0 (suc (seek l p)) → cond b 0 (suc (seek (l ++ m) p)) ≡ suc (length l) + seek m p
+    go : (length l ≤ seek l p → seek (l ++ m) p ≡ length l + seek m p) → (b : Bool) → suc (length l) ≤ cond b 0 (suc (seek l p))
+        → cond b 0 (suc (seek (l ++ m) p)) ≡ suc (length l) + seek m p
     go ih true k = omega arith
     go ih false k = omega (arith, ih (omega arith))
 

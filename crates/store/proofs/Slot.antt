@@ -1,5 +1,6 @@
--- A page that has a slot, or room for one: what taking the slot makes of the store, and that one page's part of a write, copied at once, is `written` byte by byte.
--- The idea: only the first byte of a part can take a slot; from then on the page is in place and each byte is one `set`.
+-- A page that has a slot, or room for one: what taking the slot makes of the store, and that one page's part of a write, copied at once,
+-- is `written` byte by byte. The idea: only the first byte of a part can take a slot; from then on the page is in place and each byte is
+-- one `set`.
 use mathlib.Core.Path.{_≡_, refl, sym, ap, _∙_, subst}
 use mathlib.Core.Logic.{inl}
 use mathlib.Core.List.{List, [], _∷_, _++_}
@@ -30,7 +31,8 @@ with-missing s g e = rw e
 length-snoc : (l : List ℕ) (x : ℕ) → length (l ++ (x ∷ [])) ≡ suc (length l)
 length-snoc l x = omega (arith, length-append l (x ∷ []))
 
-module _ (s : Store) (h : Sound s) (g : ℕ) (r : s .used < length (s .dir)) (e : foundIn (live s) g ≡ Nothing) (w : seek (live s) g ≡ s .used) where
+module _ (s : Store) (h : Sound s) (g : ℕ) (r : s .used < length (s .dir)) (e : foundIn (live s) g ≡ Nothing)
+    (w : seek (live s) g ≡ s .used) where
   pub live-taken : live (withPage s g) ≡ live s ++ (g ∷ [])
   live-taken = ap live (with-missing s g e) ∙ take-suc-set (s .dir) (s .used) g r
 
@@ -49,7 +51,8 @@ module _ (s : Store) (h : Sound s) (g : ℕ) (r : s .used < length (s .dir)) (e 
           found-at (live s ++ (g ∷ [])) k i (seek-in (live s) (g ∷ []) k (omega arith) ∙ q) (omega (arith, length-snoc (live s) g)) ∙ sym f
       go (missing q f) =
           let n = live-len s h in
-          found-none (live s ++ (g ∷ [])) k (omega (arith, length-snoc (live s) g, seek-past (live s) (g ∷ []) k (omega arith), seek-other g k ne)) ∙ sym f
+          found-none (live s ++ (g ∷ [])) k
+          (omega (arith, length-snoc (live s) g, seek-past (live s) (g ∷ []) k (omega arith), seek-other g k ne)) ∙ sym f
 
   pub sound-taken : Sound (withPage s g)
   sound-taken = rw (with-missing s g e) (record {
@@ -110,7 +113,8 @@ module _ (s : Store) (h : Sound s) (g : ℕ) (r : Room s g) where
       go (here i lt w f) = ap (λ (t : Store). byteAt t q) (with-here s g i f)
       go (missing w f) = byte-taken s h g (room-missing f) f w q
 
-pub put-here : (s : Store) (q i b : ℕ) → foundIn (live s) (q / 4096) ≡ At i → putByte s q b ≡ storeOf (s .dir) (set (s .bytes) (4096 * i + q % 4096) b) (s .used)
+pub put-here : (s : Store) (q i b : ℕ) → foundIn (live s) (q / 4096) ≡ At i
+    → putByte s q b ≡ storeOf (s .dir) (set (s .bytes) (4096 * i + q % 4096) b) (s .used)
 unfolding putByte stored
 put-here s q i b e = rw (with-here s (q / 4096) i e, found-seek (live s) (q / 4096) i e .0)
 
@@ -130,7 +134,8 @@ unfolding written filled
 written-here s g i off f zero e h = refl
 written-here s g i off f (suc n) e h =
     let t = storeOf (s .dir) (filled (s .bytes) (4096 * i + off) f n) (s .used) in
-    rw (written-here s g i off f n e (omega arith)) (put-here t (4096 * g + off + n) i (f n) (let d : (4096 * g + off + n) / 4096 ≡ g = omega arith in rw d e)
+    rw (written-here s g i off f n e (omega arith))
+    (put-here t (4096 * g + off + n) i (f n) (let d : (4096 * g + off + n) / 4096 ≡ g = omega arith in rw d e)
     ∙ ap (λ (k : ℕ). storeOf (s .dir) (set (filled (s .bytes) (4096 * i + off) f n) k (f n)) (s .used)) (omega arith))
 
 pub put-with : (s : Store) → Sound s → (q b : ℕ) → Room s (q / 4096) → putByte s q b ≡ putByte (withPage s (q / 4096)) q b
@@ -145,12 +150,16 @@ pub written-with : (s : Store) (h : Sound s) (g off : ℕ) (f : ℕ → ℕ) (n 
 unfolding written
 written-with s h g off f zero r b =
     let d : (4096 * g + off + 0) / 4096 ≡ g = omega arith in
-    subst (λ (k : ℕ). putByte s (4096 * g + off + 0) (f 0) ≡ putByte (withPage s k) (4096 * g + off + 0) (f 0)) d (put-with s h (4096 * g + off + 0) (f 0) (rw d r))
-written-with s h g off f (suc n) r b = ap (λ (t : Store). putByte t (4096 * g + off + suc n) (f (suc n))) (written-with s h g off f n r (omega arith))
+    subst (λ (k : ℕ). putByte s (4096 * g + off + 0) (f 0) ≡ putByte (withPage s k) (4096 * g + off + 0) (f 0)) d
+    (put-with s h (4096 * g + off + 0) (f 0) (rw d r))
+written-with s h g off f (suc n) r b =
+    ap (λ (t : Store). putByte t (4096 * g + off + suc n) (f (suc n))) (written-with s h g off f n r (omega arith))
 
-pub written-missing : (s : Store) → Sound s → (g off : ℕ) (f : ℕ → ℕ) (n : ℕ) → foundIn (live s) g ≡ Nothing → s .used < length (s .dir) → 1 ≤ n → off + n ≤ 4096
+pub written-missing : (s : Store) → Sound s → (g off : ℕ) (f : ℕ → ℕ) (n : ℕ) → foundIn (live s) g ≡ Nothing
+    → s .used < length (s .dir) → 1 ≤ n → off + n ≤ 4096
     → written s (4096 * g + off) f n
-    ≡ storeOf (set (s .dir) (s .used) g) (filled (filled (s .bytes) (4096 * s .used) noBytes 4096) (4096 * s .used + off) f n) (suc (s .used))
+    ≡ storeOf (set (s .dir) (s .used) g) (filled (filled (s .bytes) (4096 * s .used) noBytes 4096) (4096 * s .used + off) f n)
+    (suc (s .used))
 written-missing s h g off f zero e r one b = absurd (omega arith)
 written-missing s h g off f (suc n) e r one b =
     let w = seek-missing s h g e in
@@ -159,7 +168,8 @@ written-missing s h g off f (suc n) e r one b =
     ∙ ap (λ (t : Store). storeOf (t .dir) (filled (t .bytes) (4096 * s .used + off) f (suc n)) (t .used)) (with-missing s g e)
 
 -- ---- parts end to end
-pub written-add : (s : Store) (p : ℕ) (f : ℕ → ℕ) (n m : ℕ) → written (written s p f n) (p + n) (λ (k : ℕ). f (n + k)) m ≡ written s p f (n + m)
+pub written-add : (s : Store) (p : ℕ) (f : ℕ → ℕ) (n m : ℕ)
+    → written (written s p f n) (p + n) (λ (k : ℕ). f (n + k)) m ≡ written s p f (n + m)
 unfolding written
 written-add s p f n zero = rw (add-zero n)
 written-add s p f n (suc m) = rw (written-add s p f n m, add-assoc p n m, add-suc n m)

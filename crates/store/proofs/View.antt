@@ -25,7 +25,8 @@ pub view-odd : (s : Store) (z : List ℕ) (g : ℕ) → sound s ≡ true → zer
 unfolding viewOf
 view-odd s z g e e′ = rw (e, e′)
 
-pub view-in : (s : Store) (z : List ℕ) (g : ℕ) (f : Found) → sound s ≡ true → zeroPage z ≡ true → f ≡ foundIn (live s) g → viewOf s z g ≡ viewIn (s .bytes) z f
+pub view-in : (s : Store) (z : List ℕ) (g : ℕ) (f : Found) → sound s ≡ true → zeroPage z ≡ true → f ≡ foundIn (live s) g
+    → viewOf s z g ≡ viewIn (s .bytes) z f
 unfolding viewOf
 view-in s z g f e e′ ef = rw (e, e′, ef)
 
@@ -35,12 +36,14 @@ view-at s z g i f e e′ ef q =
     let n : 4096 * i + 4096 - 4096 * i ≡ 4096 = omega arith in
     ap (λ (k : ℕ). take k (drop (4096 * i) (s .bytes))) n ∙ sym (view-in s z g (At i) e e′ (sym q ∙ ef))
 
-pub view-none : (s : Store) (z : List ℕ) (g : ℕ) (f : Found) → sound s ≡ true → zeroPage z ≡ true → f ≡ foundIn (live s) g → f ≡ Nothing → z ≡ viewOf s z g
+pub view-none : (s : Store) (z : List ℕ) (g : ℕ) (f : Found) → sound s ≡ true → zeroPage z ≡ true → f ≡ foundIn (live s) g
+    → f ≡ Nothing → z ≡ viewOf s z g
 view-none s z g f e e′ ef q = sym (view-in s z g Nothing e e′ (sym q ∙ ef))
 
 -- ---- the view shows the page
 -- byte k of an accepted view is the byte that a read of the page gives
-pub view-law : (s : Store) (z : List ℕ) (g k : ℕ) → sound s ≡ true → zeroPage z ≡ true → k < 4096 → getD (viewOf s z g) k 0 ≡ byteAt s (4096 * g + k)
+pub view-law : (s : Store) (z : List ℕ) (g k : ℕ) → sound s ≡ true → zeroPage z ≡ true → k < 4096
+    → getD (viewOf s z g) k 0 ≡ byteAt s (4096 * g + k)
 unfolding zeroPage
 view-law s z g k e e′ h =
     ap (λ (l : List ℕ). getD l k 0) (view-in s z g (foundIn (live s) g) e e′ refl)
@@ -67,7 +70,8 @@ pub view-refused : (s : Store) (z : List ℕ) (g : ℕ) → sound s && zeroPage 
 unfolding viewOf
 view-refused s z g e = rw e
 
-pub view-accepted : (s : Store) (z : List ℕ) (g : ℕ) → sound s ≡ true → zeroPage z ≡ true → viewOutcome (viewOf s z g) ≡ gives (viewOf s z g)
+pub view-accepted : (s : Store) (z : List ℕ) (g : ℕ) → sound s ≡ true → zeroPage z ≡ true
+    → viewOutcome (viewOf s z g) ≡ gives (viewOf s z g)
 view-accepted s z g e e′ = go (viewOf s z g) (view-length s z g e e′)
   where
     go : (l : List ℕ) → length l ≡ 4096 → viewOutcome l ≡ gives l

@@ -1,4 +1,5 @@
--- The page of zeros: one step of the search for a byte that is none, what its end says, and that each of its bytes is 0. By cases on the byte.
+-- The page of zeros: one step of the search for a byte that is none, what its end says, and that each of its bytes is 0. By cases on the
+-- byte.
 use mathlib.Core.Path.{_≡_, refl}
 use mathlib.Core.Bool.{Bool, true, false}
 use mathlib.Core.List.{List, [], _∷_}

@@ -1,4 +1,5 @@
--- The store of document 01 as a value: its bytes by physical address, and what writing bytes makes of it. Sentences in quotes are 01's, "Addresses, pages, walk".
+-- The store of document 01 as a value: its bytes by physical address, and what writing bytes makes of it. Sentences in quotes are 01's,
+-- "Addresses, pages, walk".
 use mathlib.Core.Bool.{Bool, true, false, cond, _&&_}
 use mathlib.Core.List.{List, [], _∷_}
 use Prim.Native.Nat.{ℕ, zero, suc, _+_, _*_, _-_, _/_, _%_}
@@ -28,7 +29,8 @@ live s = take (s .used) (s .dir)
 abbrev pub unused : Store → ℕ
 unused s = length (s .dir) - s .used
 
--- "The search of the directory stops at the first slot in use that holds the number": the place of the first g in l, or l's length if there is none
+-- "The search of the directory stops at the first slot in use that holds the number": the place of the first g in l, or l's length if
+-- there is none
 unfoldable pub seek : List ℕ → ℕ → ℕ
 seek [] g = 0
 seek (x ∷ xs) g = cond (eqb x g) 0 (suc (seek xs g))

@@ -1,6 +1,6 @@
--- Bytes and words, low byte first: each way undoes the other, and byte k of a word is its lane k. By induction on the number of bytes. Assumes nothing.
+-- Bytes and words, low byte first: each way undoes the other, and byte k of a word is its lane k. By induction on the number of bytes.
+-- Assumes nothing.
 use mathlib.Core.Path.{_≡_, refl, sym, ap, _∙_}
-use mathlib.Core.Bool.{true}
 use mathlib.Core.List.{List, [], _∷_, _++_}
 use Prim.Native.Nat.{ℕ, zero, suc, _+_, _*_, _/_, _%_, _^_, _<_, _≤_}
 use native.Mathlib.Nat.{mod-one, div-one}
@@ -47,13 +47,19 @@ from-at (b ∷ bs) zero = refl
 from-at (b ∷ bs) (suc n) = from-at bs n
 
 -- eight bytes, written out
-pub from-eight : (bs : List ℕ) → length bs ≡ 8 → getD bs 0 0 + getD bs 1 0 * 256 + getD bs 2 0 * 65536 + getD bs 3 0 * 16777216 + getD bs 4 0 * 4294967296 + getD bs 5 0 * 1099511627776 + getD bs 6 0 * 281474976710656 + getD bs 7 0 * 72057594037927936 ≡ fromBytes bs
+pub from-eight : (bs : List ℕ) → length bs ≡ 8
+    → getD bs 0 0 + getD bs 1 0 * 256 + getD bs 2 0 * 65536 + getD bs 3 0 * 16777216 + getD bs 4 0 * 4294967296
+    + getD bs 5 0 * 1099511627776 + getD bs 6 0 * 281474976710656 + getD bs 7 0 * 72057594037927936
+    ≡ fromBytes bs
 from-eight bs h =
     let e : fromBytes (drop 8 bs) ≡ 0 = ap fromBytes (drop-of-length-le bs {i = 8} (omega arith)) ∙ unfold fromBytes in refl in
     omega (arith, from-at bs 0, from-at bs 1, from-at bs 2, from-at bs 3, from-at bs 4, from-at bs 5, from-at bs 6, from-at bs 7)
 
 -- a word's eight bytes, written out
-pub to-eight : (x : ℕ) → x % 256 ∷ x / 256 % 256 ∷ x / 65536 % 256 ∷ x / 16777216 % 256 ∷ x / 4294967296 % 256 ∷ x / 1099511627776 % 256 ∷ x / 281474976710656 % 256 ∷ x / 72057594037927936 % 256 ∷ [] ≡ toBytes 8 x
+pub to-eight : (x : ℕ)
+    → x % 256 ∷ x / 256 % 256 ∷ x / 65536 % 256 ∷ x / 16777216 % 256 ∷ x / 4294967296 % 256
+    ∷ x / 1099511627776 % 256 ∷ x / 281474976710656 % 256 ∷ x / 72057594037927936 % 256 ∷ []
+    ≡ toBytes 8 x
 unfolding toBytes
 to-eight x = rw (shr-shr x 8 8, shr-shr x 16 8, shr-shr x 24 8, shr-shr x 32 8, shr-shr x 40 8, shr-shr x 48 8)
 

@@ -1,7 +1,7 @@
 -- Sign extension: it looks at the low n bits alone, none read 0, and 64 bits are the word itself. Assumes nothing.
 use mathlib.Core.Bool.{Bool, true, false, cond}
 use mathlib.Core.Path.{_≡_, refl, sym, ap, _∙_}
-use Prim.Native.Nat.{ℕ, zero, suc, _+_, _-_, _*_, _/_, _%_, _^_, _<_, _≤_}
+use Prim.Native.Nat.{ℕ, _+_, _-_, _*_, _/_, _%_, _^_, _<_, _≤_}
 use native.Mathlib.Nat.{div-one, mod-lt, mod-mod, mod-one, mod-eq-of-lt}
 use native.Mathlib.Omega.{arith}
 use borrow.Author.Tests.{lt-ltb, le-ltb}
@@ -27,11 +27,15 @@ extend-whole n x h l =
 -- words with the same low n bits extend alike
 pub extend-same : (n x y : ℕ) → cut x 0 n ≡ cut y 0 n → extend n x ≡ extend n y
 unfolding extend cut
-extend-same n x y e = let h : x % 2 ^ n ≡ y % 2 ^ n = ap (λ (z : ℕ). z % 2 ^ n) (sym (div-one x)) ∙ e ∙ ap (λ (z : ℕ). z % 2 ^ n) (div-one y) in ap (λ (l : ℕ). cond (ltb l (2 ^ (n - 1))) l (l + (2 ^ 64 - 2 ^ n))) h
+extend-same n x y e = let h : x % 2 ^ n ≡ y % 2 ^ n = ap (λ (z : ℕ). z % 2 ^ n) (sym (div-one x)) ∙ e
+    ∙ ap (λ (z : ℕ). z % 2 ^ n) (div-one y) in ap (λ (l : ℕ). cond (ltb l (2 ^ (n - 1))) l (l + (2 ^ 64 - 2 ^ n))) h
 
 -- so a field of n bits extends as what stands from its first bit on
 pub extend-cut : (n f x : ℕ) → extend n (cut x f n) ≡ extend n (x / 2 ^ f)
-extend-cut n f x = extend-same n (cut x f n) (x / 2 ^ f) (unfold cut in ap (λ (z : ℕ). z % 2 ^ n) (div-one (x / 2 ^ f % 2 ^ n)) ∙ mod-mod (x / 2 ^ f) (2 ^ n) ∙ ap (λ (z : ℕ). z % 2 ^ n) (sym (div-one (x / 2 ^ f))))
+extend-cut n f x =
+    extend-same n (cut x f n) (x / 2 ^ f)
+    (unfold cut in ap (λ (z : ℕ). z % 2 ^ n) (div-one (x / 2 ^ f % 2 ^ n)) ∙ mod-mod (x / 2 ^ f) (2 ^ n)
+    ∙ ap (λ (z : ℕ). z % 2 ^ n) (sym (div-one (x / 2 ^ f))))
 
 pub extend-low : (n x : ℕ) → extend n x ≡ extend n (cut x 0 n)
 extend-low n x = sym (extend-cut n 0 x ∙ ap (extend n) (div-one x))

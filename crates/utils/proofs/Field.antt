@@ -1,7 +1,7 @@
--- The law of fields, once over first bit and width: a field put in reads back, every other field stays, and neighbouring fields fix the field
--- that they make up. Registers, lanes and flags use these and never open `cut` or `put`. Assumes nothing.
+-- The law of fields, once over first bit and width: a field put in reads back, every other field stays, and neighbouring fields fix the
+-- field that they make up. Registers, lanes and flags use these and never open `cut` or `put`. Assumes nothing.
 use mathlib.Core.Logic.{_⊎_, inl, inr}
-use mathlib.Core.Path.{_≡_, refl, sym, ap, ap₂, _∙_, subst, subst⁻¹}
+use mathlib.Core.Path.{_≡_, sym, ap, ap₂, _∙_, subst, subst⁻¹}
 use Prim.Native.Nat.{ℕ, zero, suc, _+_, _-_, _*_, _/_, _%_, _^_, _≤_, _<_}
 use native.Mathlib.Nat.{mod-lt, mod-one, mul-add-mod-self-right, mul-assoc, mul-zero, mul-suc, div-one, mod-eq-of-lt}
 use native.Mathlib.Omega.{arith}
@@ -15,7 +15,9 @@ unfolding cut
 cut-low hi lo k f n h =
     let e : k ≡ (k - (n + f)) + (n + f) = omega arith in
     let d : hi * 2 ^ k + lo ≡ (hi * 2 ^ (k - (n + f))) * 2 ^ (n + f) + lo =
-    ap (λ (x : ℕ). x + lo) (ap (λ (x : ℕ). hi * 2 ^ x) e ∙ ap (λ (x : ℕ). hi * x) (pow-add 2 (k - (n + f)) (n + f)) ∙ sym (mul-assoc hi (2 ^ (k - (n + f))) (2 ^ (n + f)))) in
+    ap (λ (x : ℕ). x + lo)
+    (ap (λ (x : ℕ). hi * 2 ^ x) e ∙ ap (λ (x : ℕ). hi * x) (pow-add 2 (k - (n + f)) (n + f))
+    ∙ sym (mul-assoc hi (2 ^ (k - (n + f))) (2 ^ (n + f)))) in
     sym (field (hi * 2 ^ k + lo) n f)
     ∙ ap (λ (x : ℕ). x / 2 ^ f) (ap (λ (x : ℕ). x % 2 ^ (n + f)) d ∙ mul-add-mod-self-right (hi * 2 ^ (k - (n + f))) (2 ^ (n + f)) lo)
     ∙ field lo n f
@@ -46,18 +48,21 @@ mid-lt x f n v =
 pub put-inside : (x f n v d m : ℕ) → d + m ≤ n → cut (put x f n v) (f + d) m ≡ cut v d m
 unfolding put
 put-inside x f n v d m h =
-    cut-low (x / 2 ^ (f + n)) (v % 2 ^ n * 2 ^ f + x % 2 ^ f) (f + n) (f + d) m (omega arith) ∙ cut-high (v % 2 ^ n) f d m (mod-lt x (pow-pos f)) ∙ cut-mod v n d m h
+    cut-low (x / 2 ^ (f + n)) (v % 2 ^ n * 2 ^ f + x % 2 ^ f) (f + n) (f + d) m (omega arith)
+    ∙ cut-high (v % 2 ^ n) f d m (mod-lt x (pow-pos f)) ∙ cut-mod v n d m h
 
 put-below : (x f n v g m : ℕ) → g + m ≤ f → cut (put x f n v) g m ≡ cut x g m
 unfolding put
 put-below x f n v g m h =
-    cut-low (x / 2 ^ (f + n)) (v % 2 ^ n * 2 ^ f + x % 2 ^ f) (f + n) g m (omega arith) ∙ cut-low (v % 2 ^ n) (x % 2 ^ f) f g m h ∙ cut-mod x f g m h
+    cut-low (x / 2 ^ (f + n)) (v % 2 ^ n * 2 ^ f + x % 2 ^ f) (f + n) g m (omega arith) ∙ cut-low (v % 2 ^ n) (x % 2 ^ f) f g m h
+    ∙ cut-mod x f g m h
 
 put-above : (x f n v g m : ℕ) → f + n ≤ g → cut (put x f n v) g m ≡ cut x g m
 unfolding put
 put-above x f n v g m h =
     let e : g ≡ (f + n) + (g - (f + n)) = omega arith in
-    ap (λ (y : ℕ). cut (put x f n v) y m) e ∙ cut-high (x / 2 ^ (f + n)) (f + n) (g - (f + n)) m (mid-lt x f n v) ∙ cut-div x (f + n) (g - (f + n)) m ∙ ap (λ (y : ℕ). cut x y m) (sym e)
+    ap (λ (y : ℕ). cut (put x f n v) y m) e ∙ cut-high (x / 2 ^ (f + n)) (f + n) (g - (f + n)) m (mid-lt x f n v)
+    ∙ cut-div x (f + n) (g - (f + n)) m ∙ ap (λ (y : ℕ). cut x y m) (sym e)
 
 -- a field beside it, below or above, stays
 pub put-outside : (x f n v g m : ℕ) → (g + m ≤ f) ⊎ (f + n ≤ g) → cut (put x f n v) g m ≡ cut x g m
@@ -75,7 +80,9 @@ unfolding cut
 cells-fix w x y f zero h = rw (mul-zero w) (mod-one (x / 2 ^ f) ∙ sym (mod-one (y / 2 ^ f)))
 cells-fix w x y f (suc n) h =
     let e : w * suc n ≡ w + w * n = omega (arith, mul-suc w n) in
-    ap (λ (z : ℕ). cut x f z) e ∙ cut-add x f (w * n) w ∙ ap₂ (λ (a b : ℕ). a * 2 ^ (w * n) + b) (h n (omega arith)) (cells-fix w x y f n (λ j l. h j (omega arith))) ∙ sym (ap (λ (z : ℕ). cut y f z) e ∙ cut-add y f (w * n) w)
+    ap (λ (z : ℕ). cut x f z) e ∙ cut-add x f (w * n) w
+    ∙ ap₂ (λ (a b : ℕ). a * 2 ^ (w * n) + b) (h n (omega arith)) (cells-fix w x y f n (λ j l. h j (omega arith)))
+    ∙ sym (ap (λ (z : ℕ). cut y f z) e ∙ cut-add y f (w * n) w)
 
 -- a word of k bits is its field of k bits, and stays one
 pub cut-all : (x k : ℕ) → x < 2 ^ k → cut x 0 k ≡ x
@@ -87,7 +94,8 @@ unfolding put
 put-lt x f n v k h l =
     let e : k ≡ (k - (f + n)) + (f + n) = omega arith in
     let l′ : x < 2 ^ ((k - (f + n)) + (f + n)) = subst (λ (y : ℕ). x < 2 ^ y) e l in
-    subst⁻¹ (λ (y : ℕ). put x f n v < y) (ap (λ (y : ℕ). 2 ^ y) e ∙ pow-add 2 (k - (f + n)) (f + n)) (digits-lt (shr-lt (k - (f + n)) (f + n) l′) (mid-lt x f n v))
+    subst⁻¹ (λ (y : ℕ). put x f n v < y) (ap (λ (y : ℕ). 2 ^ y) e ∙ pow-add 2 (k - (f + n)) (f + n))
+    (digits-lt (shr-lt (k - (f + n)) (f + n) l′) (mid-lt x f n v))
 
 -- the field's old bits go and the new ones come: how a program writes one field
 pub put-exchange : (x f n v : ℕ) → put x f n v + cut x f n * 2 ^ f ≡ x + v % 2 ^ n * 2 ^ f

@@ -1,17 +1,15 @@
--- A signed number written as n bytes, low byte first, comes back: read as a number, sign-extended from the bytes, and read as signed. Once over
--- the number of bits. Assumes nothing.
-use mathlib.Core.Bool.{cond}
-use mathlib.Core.Path.{_≡_, sym, _∙_, ap}
+-- A signed number written as n bytes, low byte first, comes back: read as a number, sign-extended from the bytes, and read as signed.
+-- Once over the number of bits. Assumes nothing.
+use mathlib.Core.Path.{_≡_, _∙_, ap}
 use Prim.Native.Nat.{ℕ, zero, suc, _+_, _-_, _*_, _%_, _^_, _<_, _≤_}
 use native.Mathlib.Nat.{mod-eq-of-lt, mod-mod, suc-mul}
 use native.Mathlib.Omega.{arith}
 use borrow.Author.Tests.{lt-ltb, le-ltb}
-use lib.Dec.{ltb}
 use lib.IntN.{ℤ, pos, negsuc}
 use lib.Pow.{low, pow-add, pow-mono, pow-pos}
 use lib.Signed.{mag}
 use mir.Syntax.{w64}
-use mir.Val.{SFits, ofZ, toZ}
+use mir.Val.{ofZ, toZ}
 use mir.ValLaws.{toZ-ofZ}
 use Rattle.utils.specs.Bytes.{toBytes, fromBytes}
 use Rattle.utils.specs.Word.{extend}
@@ -49,8 +47,11 @@ module _ (k : ℕ) (some : 1 ≤ k) (most : k ≤ 64) where
       rw (low-part m h, le-ltb (2 ^ k - suc m) (2 ^ (k - 1)) (omega arith)) (omega arith)
 
 -- "signed values to 1, 2, 4 or 8 bytes", and back
-pub signed-back : (n : ℕ) (z : ℤ) → 1 ≤ n → n ≤ 8 → mag z < 2 ^ (8 * n - 1) → toZ w64 (extend (8 * n) (fromBytes (toBytes n (ofZ w64 z)))) ≡ z
+pub signed-back : (n : ℕ) (z : ℤ) → 1 ≤ n → n ≤ 8 → mag z < 2 ^ (8 * n - 1)
+    → toZ w64 (extend (8 * n) (fromBytes (toBytes n (ofZ w64 z)))) ≡ z
 signed-back n z a b h =
     let c : 8 * n - 1 ≤ 63 = omega arith in
     let l : 2 ^ (8 * n - 1) ≤ 2 ^ 63 = pow-mono c in
-    ap (λ (x : ℕ). toZ w64 (extend (8 * n) x)) (from-to n (ofZ w64 z)) ∙ ap (toZ w64) (extend-mod (8 * n) (ofZ w64 z) ∙ extend-signed (8 * n) (omega arith) (omega arith) z h) ∙ toZ-ofZ w64 z (record { sfits = omega arith })
+    ap (λ (x : ℕ). toZ w64 (extend (8 * n) x)) (from-to n (ofZ w64 z))
+    ∙ ap (toZ w64) (extend-mod (8 * n) (ofZ w64 z) ∙ extend-signed (8 * n) (omega arith) (omega arith) z h)
+    ∙ toZ-ofZ w64 z (record { sfits = omega arith })

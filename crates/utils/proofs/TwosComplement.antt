@@ -1,12 +1,12 @@
 -- Signed numbers in 64 bits: what the code's sums and differences on either side of 0 come to. Assumes nothing.
 use mathlib.Core.Bool.{true, false}
-use mathlib.Core.Path.{_≡_, refl, sym, _∙_, ap}
+use mathlib.Core.Path.{_≡_, refl, _∙_, ap}
 use Prim.Native.Nat.{ℕ, zero, suc, _+_, _-_, _≤_, _<_, _^_}
 use native.Mathlib.Omega.{arith}
-use borrow.Author.Tests.{lt-ltb, le-ltb, ltb-true}
+use borrow.Author.Tests.{lt-ltb, ltb-true}
 use lib.Dec.{T, leb, leb→le}
 use lib.IntN.{ℤ, pos, negsuc, natAbs, _+ℤ_, _-ℤ_}
-use lib.Signed.{mag, ltZ}
+use lib.Signed.{ltZ}
 use lib.Pow.{pow-mono}
 use mir.Syntax.{Width, w32, w64}
 use mir.Val.{SFits, ofZ, toZ, hbits}
@@ -91,7 +91,8 @@ module _ (z : ℤ) (s : SFits w32 z) (t : ltZ (toZ w64 (ofZ w64 (toZ w32 (ofZ w3
   opposite-is = rw same (opposite-by z s (rw same at t) .0)
 
   pub opposite-back : toZ w64 (ofZ w64 (pos 0 -ℤ toZ w64 (ofZ w64 (toZ w32 (ofZ w32 z))))) ≡ pos (natAbs z)
-  opposite-back = ap (λ (y : ℤ). toZ w64 (ofZ w64 y)) opposite-is ∙ toZ-ofZ w64 (pos (natAbs z)) (record { sfits = omega (arith, opposite-small) })
+  opposite-back =
+      ap (λ (y : ℤ). toZ w64 (ofZ w64 y)) opposite-is ∙ toZ-ofZ w64 (pos (natAbs z)) (record { sfits = omega (arith, opposite-small) })
 
 -- `signed` on a word whose top bit is set: 0 less n, less 1, is -(n + 1)
 less : (n : ℕ) → n < 2 ^ 63 → (toZ w64 (ofZ w64 (pos 0 -ℤ pos n)) -ℤ pos 1 ≡ negsuc n) × SFits w64 (pos 0 -ℤ pos n)

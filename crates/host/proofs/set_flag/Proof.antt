@@ -1,5 +1,5 @@
--- `host::set_flag` leaves the machine that `MachineState::set_flag` gives: a walk of its MIR, by hand. The borrow is opened, a copy of the machine goes
--- to the by-value call, of which only the contract is known, and the borrow is closed at the machine in the answer.
+-- `host::set_flag` leaves the machine that `MachineState::set_flag` gives: a walk of its MIR, by hand. The borrow is opened, a copy of
+-- the machine goes to the by-value call, of which only the contract is known, and the borrow is closed at the machine in the answer.
 use mathlib.Core.Path.{_≡_, refl}
 use mathlib.Core.Bool.{Bool}
 use Prim.Native.Nat.{ℕ}
@@ -75,7 +75,8 @@ module _ {M : Type 1} (𝓤 : URA M) (H : Heap 𝓤) (A : Atoms 𝓤) (W : Given
   abbrev G : Contract 𝓤
   G = tripleOf 𝓤 H A g.signature (g.spec 𝓤 H A at-mem run)
 
-  module _ (κ : Lft) (q : Share) (b o : ℕ) (γ : GName) (h : MachineState) (n : Flags) (v : Bool) (is-flag : Is F.the-row n (flag-vals n)) where
+  module _ (κ : Lft) (q : Share) (b o : ℕ) (γ : GName) (h : MachineState) (n : Flags) (v : Bool)
+      (is-flag : Is F.the-row n (flag-vals n)) where
     abbrev answer : Changed
     answer = changed (setFlag h n v) Quiet
 
@@ -91,55 +92,92 @@ module _ {M : Type 1} (𝓤 : URA M) (H : Heap 𝓤) (A : Atoms 𝓤) (W : Given
     abbrev Post : Val → SProp 𝓤
     Post = walkOf 𝓤 H A f.ended stayed (f.clauses 𝓤 H A at-mem run) .post (((κ, tt), (q, tt), tt, x, at), tt)
 
-    exits : ent 𝓤 (sep 𝓤 (A .obs γ (T.the-row .coded .code (answer .machine))) (sep 𝓤 (A .bor κ (Body (mem T.the-row) b o γ)) (A .lft κ q))) (Post vunit)
+    exits : ent 𝓤
+        (sep 𝓤 (A .obs γ (T.the-row .coded .code (answer .machine))) (sep 𝓤 (A .bor κ (Body (mem T.the-row) b o γ)) (A .lft κ q)))
+        (Post vunit)
     exits =
         qed W (‵ (fobs γ (T.the-row .coded .code (answer .machine))) ∷ ‵ (fbor κ (Body (mem T.the-row) b o γ)) ∷ ‵ (flft κ q) ∷ []) ∵
-        suffices ! _ (ends-at 𝓤 H A f.ended stayed (f.clauses 𝓤 H A at-mem run) W (((κ, tt), (q, tt), tt, x, at), tt) vunit tt (answer .machine, (tt, (tt, tt))) (tt, (tt, (tt, tt)))) $ says ! refl $
+        suffices ! _
+        (ends-at 𝓤 H A f.ended stayed (f.clauses 𝓤 H A at-mem run) W (((κ, tt), (q, tt), tt, x, at), tt) vunit tt
+        (answer .machine, (tt, (tt, tt))) (tt, (tt, (tt, tt)))) $ says ! refl $
         nothing ! $ move ! (3 ∷ 0 ∷ []) $ join ! $ frame ! $ feqI ! (List Val) (vptr b o ∷ []) (vptr b o ∷ []) refl $ fjoin3 ! $
-        nothing ! $ owned ! bool (Is bool) (bool-makes 𝓤 H A W) v _ refl $ fjoin ! $ owned ! F.the-row (Is F.the-row) (EL.makes F.the-type F′.the-plain 𝓤 H A) n _ is-flag $ fjoin ! $
+        nothing ! $ owned ! bool (Is bool) (bool-makes 𝓤 H A W) v _ refl $ fjoin ! $ owned ! F.the-row (Is F.the-row)
+        (EL.makes F.the-type F′.the-plain 𝓤 H A) n _ is-flag $ fjoin ! $
         move ! (1 ∷ 0 ∷ []) $ fjoin ! $ feqI ! (List Val) (vunit ∷ []) (vunit ∷ []) refl $ move ! (1 ∷ 0 ∷ []) $ done !
 
     abbrev to-g : G .Ghost
     to-g = ((tt, tt, tt, (h, (n, (v, tt))), (vals h, (flag-vals n, (vbool v ∷ [], tt)))), tt)
 
-    goes-g : ent 𝓤 (sep 𝓤 (sem 𝓤 H A (T.the-row .own h (vals h))) (sep 𝓤 (sem 𝓤 H A (F.the-row .own n (flag-vals n))) (sem 𝓤 H A (bool .own v (vbool v ∷ []))))) (G .pre to-g)
+    goes-g : ent 𝓤
+        (sep 𝓤 (sem 𝓤 H A (T.the-row .own h (vals h)))
+        (sep 𝓤 (sem 𝓤 H A (F.the-row .own n (flag-vals n))) (sem 𝓤 H A (bool .own v (vbool v ∷ []))))) (G .pre to-g)
     goes-g =
-        qed W (‵ (T.the-row .own h (vals h)) ∷ ‵ (F.the-row .own n (flag-vals n)) ∷ ‵ (bool .own v (vbool v ∷ [])) ∷ []) ∵ nothing ! $ move ! (3 ∷ 0 ∷ []) $ join ! $
+        qed W (‵ (T.the-row .own h (vals h)) ∷ ‵ (F.the-row .own n (flag-vals n)) ∷ ‵ (bool .own v (vbool v ∷ [])) ∷ [])
+        ∵ nothing ! $ move ! (3 ∷ 0 ∷ []) $ join ! $
         move ! (2 ∷ 0 ∷ []) $ join ! $ move ! (1 ∷ 0 ∷ []) $ join ! $ nothing ! $ join ! $ frame ! $ done !
 
     module _ (C : Calls 𝓤 H) (Λ : Loops 𝓤 H) (fm : FmC 𝓤 H (W .laws) C) (known : Triple 𝓤 (C #g) G) where
-      walk : ent 𝓤 (onEntry 𝓤 H A f.signature (κ, tt) (q, tt) x at) (WpFn 𝓤 H C Λ code.function (vptr b o ∷ EL.val F.the-type F′.the-laws n ∷ vbool v ∷ []) Post)
+      walk : ent 𝓤 (onEntry 𝓤 H A f.signature (κ, tt) (q, tt) x at)
+          (WpFn 𝓤 H C Λ code.function (vptr b o ∷ EL.val F.the-type F′.the-laws n ∷ vbool v ∷ []) Post)
       walk =
-          qed W ((‵ (flft κ q) ⊛ ‵ ftrue) ∷ ‵ (owns (MutRef (named 0) κ T.the-row ∷ F.the-row ∷ bool ∷ []) x at) ∷ []) ∵ split ! $ move ! (2 ∷ []) $ fsplit ! $ fsplit3 ! $ drop ! $ move ! (2 ∷ []) $ fsplit ! $ move ! (1 ∷ []) $ fsplit ! $
+          qed W ((‵ (flft κ q) ⊛ ‵ ftrue) ∷ ‵ (owns (MutRef (named 0) κ T.the-row ∷ F.the-row ∷ bool ∷ []) x at) ∷ [])
+          ∵ split ! $ move ! (2 ∷ []) $ fsplit ! $ fsplit3 ! $ drop ! $ move ! (2 ∷ []) $ fsplit ! $ move ! (1 ∷ []) $ fsplit ! $
           -- [what value owns; true; what flag owns; obs; the borrow; the token; true]
           move ! (3 ∷ 4 ∷ 5 ∷ []) $ enter ! C Λ code.function (vptr b o ∷ EL.val F.the-type F′.the-laws n ∷ vbool v ∷ []) _ $
           alloc1 ! (λ l₀. alloc1 ! (λ l₁. alloc1 ! (λ l₂. alloc1 ! (λ l₃. alloc1 ! (λ l₄. alloc1 ! (λ l₅. alloc0 ! $ params1 ! $
-          pass1 ! (init ! 8 refl (tt, tt)) $ pass1 ! (init ! 6 refl (EL.lawful F.the-type F′.the-laws 𝓤 H A W tt .typed n _ is-flag .0)) $ pass1 ! (init ! 4 refl (tt, tt)) $ pass0 ! $
-          move ! (12 ∷ 13 ∷ 14 ∷ []) $ opens ! tt T.the-row {h = h} b o (λ vs. spelt ! T.the-row (Is T.the-row) (shows 𝓤 H A T.the-row) vals (LL.tells T.the-type T′.the-laws) fullShare h vs b o $
+          pass1 ! (init ! 8 refl (tt, tt)) $ pass1 !
+          (init ! 6 refl (EL.lawful F.the-type F′.the-laws 𝓤 H A W tt .typed n _ is-flag .0)) $ pass1 ! (init ! 4 refl (tt, tt))
+          $ pass0 ! $
+          move ! (12 ∷ 13 ∷ 14 ∷ []) $ opens ! tt T.the-row {h = h} b o
+          (λ vs. spelt ! T.the-row (Is T.the-row) (shows 𝓤 H A T.the-row) vals (LL.tells T.the-type T′.the-laws) fullShare h vs b o $
           move ! (1 ∷ []) $ peeks ! T.the-row (Is T.the-row) (shows 𝓤 H A T.the-row) h (vals h) (λ was. move ! (1 ∷ 0 ∷ []) $
-          -- [the machine's cell; what it owns; the open borrow; obs; auth; _5; …; _4; …; _3; …; _2; …; _1; …; _0; …; what value owns; true; what flag owns; true]
-          assigns ! (of-opd ! (load ! (from ! (hop ! (look ! 13 refl) (stop !))) (look-raw ! 0 refl))) (from ! (stop !)) (init ! 5 refl (LL.lawful T.the-type T′.the-laws 𝓤 H A W .typed h _ was .0)) $
+          -- [the machine's cell; what it owns; the open borrow; obs; auth; _5; …; _4; …; _3; …; _2; …; _1; …; _0; …; what value owns;
+          -- true; what flag owns; true]
+          assigns ! (of-opd ! (load ! (from ! (hop ! (look ! 13 refl) (stop !))) (look-raw ! 0 refl))) (from ! (stop !))
+          (init ! 5 refl (LL.lawful T.the-type T′.the-laws 𝓤 H A W .typed h _ was .0)) $
           move ! (1 ∷ 19 ∷ 17 ∷ []) $ use3 W (raw (G .pre to-g)) goes-g $
-          calls-at ! fm G known to-g (and-then ! (load ! (from ! (stop !)) (look ! 5 refl)) (and-then ! (load ! (from ! (stop !)) (look ! 11 refl)) (and-then ! (load ! (from ! (stop !)) (look ! 9 refl)) (no-more !)))) (λ u.
-          use1 W (later (some (λ (r : Changed). (‵ ftrue ⊛ ‵ (R.the-row .own r (u ∷ []))) ⊛ raw (ensured 𝓤 H A g.ended (g.clauses 𝓤 H A at-mem run) tt (h, (n, (v, tt))) tt r)))) (id⊢ 𝓤 _) $ await ! tt $ pick ! (λ r.
-          split ! $ move ! (1 ∷ []) $ use1 W (raw (fact 𝓤 (r ≡ answer))) (says-answer r) $ heard ! (r ≡ answer) (λ e. split ! $ drop ! $ rewrite ! 0 (λ (r′ : Changed). ‵ (R.the-row .own r′ (u ∷ []))) e refl $
-          peeks ! R.the-row (Is R.the-row) (shows 𝓤 H A R.the-row) answer (u ∷ []) (λ is. land ! (from ! (stop !)) (init ! 7 refl (LL.lawful R.the-type R′.the-laws 𝓤 H A W .typed answer _ is .0)) $
-          rewrite ! 7 (λ (us : List Val). ‵ (fat fullShare R′.mir l₄ 0 (only us))) (LL.tells R.the-type R′.the-laws answer (u ∷ []) is) refl $ drop ! $
-          owned ! T.the-row (Is T.the-row) (LL.makes T.the-type T′.the-plain 𝓤 H A) (answer .machine) (vals (answer .machine)) (LL.owed R.the-type R′.the-laws answer _ is .0) $ move ! (1 ∷ 0 ∷ []) $
+          calls-at ! fm G known to-g
+          (and-then ! (load ! (from ! (stop !)) (look ! 5 refl))
+          (and-then ! (load ! (from ! (stop !)) (look ! 11 refl))
+          (and-then ! (load ! (from ! (stop !)) (look ! 9 refl)) (no-more !)))) (λ u.
+          use1 W (later
+          (some (λ (r : Changed). (‵ ftrue ⊛ ‵ (R.the-row .own r (u ∷ []))) ⊛ raw
+          (ensured 𝓤 H A g.ended (g.clauses 𝓤 H A at-mem run) tt (h, (n, (v, tt))) tt r)))) (id⊢ 𝓤 _) $ await ! tt $ pick ! (λ r.
+          split ! $ move ! (1 ∷ []) $ use1 W (raw (fact 𝓤 (r ≡ answer))) (says-answer r) $ heard ! (r ≡ answer)
+          (λ e. split ! $ drop ! $ rewrite ! 0 (λ (r′ : Changed). ‵ (R.the-row .own r′ (u ∷ []))) e refl $
+          peeks ! R.the-row (Is R.the-row) (shows 𝓤 H A R.the-row) answer (u ∷ [])
+          (λ is. land ! (from ! (stop !)) (init ! 7 refl (LL.lawful R.the-type R′.the-laws 𝓤 H A W .typed answer _ is .0)) $
+          rewrite ! 7 (λ (us : List Val). ‵ (fat fullShare R′.mir l₄ 0 (only us))) (LL.tells R.the-type R′.the-laws answer (u ∷ []) is)
+          refl $ drop ! $
+          owned ! T.the-row (Is T.the-row) (LL.makes T.the-type T′.the-plain 𝓤 H A) (answer .machine) (vals (answer .machine))
+          (LL.owed R.the-type R′.the-laws answer _ is .0) $ move ! (1 ∷ 0 ∷ []) $
           -- [the machine's cell; what the machine in the answer owns; the open borrow; obs; auth; _5; …; _4: the answer; …]
-          assigns ! (of-opd ! (load ! (from ! (fld ! refl (stop !))) (look-in ! 7 (sub ! 0 refl (whole !))))) (from ! (hop ! (look ! 13 refl) (stop !)))
-          (store-raw ! 0 refl (LL.lawful T.the-type T′.the-laws 𝓤 H A W .typed (answer .machine) _ (LL.owed R.the-type R′.the-laws answer _ is .0) .0)) $
-          assigns ! (of-opd ! (unit-lit !)) (from ! (stop !)) (init ! 15 refl (tt, tt)) $ closes ! tt T.the-row (answer .machine) (vals (answer .machine)) b o $
-          returns ! (look ! 13 refl) $ forget ! 3 refl $ forget ! 5 refl $ forget ! 7 refl $ forget ! 9 refl $ forget ! 11 refl $ forget ! 13 refl $
-          move ! (13 ∷ 14 ∷ []) $ free1 ! $ move ! (11 ∷ 12 ∷ []) $ free1 ! $ move ! (9 ∷ 10 ∷ []) $ free1 ! $ move ! (7 ∷ 8 ∷ []) $ free1 ! $ move ! (5 ∷ 6 ∷ []) $ free1 ! $ move ! (3 ∷ 4 ∷ []) $ free1 ! $ free0 ! $
+          assigns ! (of-opd ! (load ! (from ! (fld ! refl (stop !))) (look-in ! 7 (sub ! 0 refl (whole !)))))
+          (from ! (hop ! (look ! 13 refl) (stop !)))
+          (store-raw ! 0 refl
+          (LL.lawful T.the-type T′.the-laws 𝓤 H A W .typed (answer .machine) _ (LL.owed R.the-type R′.the-laws answer _ is .0) .0)) $
+          assigns ! (of-opd ! (unit-lit !)) (from ! (stop !)) (init ! 15 refl (tt, tt)) $ closes ! tt T.the-row (answer .machine)
+          (vals (answer .machine)) b o $
+          returns ! (look ! 13 refl)
+          $ forget ! 3 refl $ forget ! 5 refl $ forget ! 7 refl $ forget ! 9 refl $ forget ! 11 refl $ forget ! 13 refl $
+          move ! (13 ∷ 14 ∷ []) $ free1 ! $ move ! (11 ∷ 12 ∷ []) $ free1 ! $ move ! (9 ∷ 10 ∷ []) $ free1 ! $ move ! (7 ∷ 8 ∷ [])
+          $ free1 ! $ move ! (5 ∷ 6 ∷ []) $ free1 ! $ move ! (3 ∷ 4 ∷ []) $ free1 ! $ free0 ! $
           keep ! (0 ∷ 1 ∷ 2 ∷ []) $ by ! exits))))))))))))
 
   meets : (𝓣 : Tables 𝓤 H) → Triple 𝓤 (𝓣 .C #g) G → Meets 𝓤 H A f.signature (WpFn 𝓤 H (𝓣 .C) (𝓣 .Λ) code.function) (f.spec 𝓤 H A at-mem run)
   meets 𝓣 known =
-      walk-meets 𝓤 H A f.ended stayed W (goes-ref 𝓤 H A W 1 0 tt (plain (λ _. T.the-row)), (goes-none 𝓤 H A W 1 (λ _. F.the-row) yes (λ κs x f. refl), (goes-none 𝓤 H A W 1 (λ _. bool) yes (λ κs x f. refl), tt))) (f.clauses 𝓤 H A at-mem run)
+      walk-meets 𝓤 H A f.ended stayed W (
+        goes-ref 𝓤 H A W 1 0 tt (plain (λ _. T.the-row)),
+        (goes-none 𝓤 H A W 1 (λ _. F.the-row) yes (λ κs x f. refl), (goes-none 𝓤 H A W 1 (λ _. bool) yes (λ κs x f. refl), tt)),
+      )
+      (f.clauses 𝓤 H A at-mem run)
       (WpFn 𝓤 H (𝓣 .C) (𝓣 .Λ) code.function) (WpFn-mono 𝓤 H (W .laws) 𝓣 code.function)
-      (walked 𝓤 H A f.ended stayed (f.clauses 𝓤 H A at-mem run) (WpFn 𝓤 H (𝓣 .C) (𝓣 .Λ) code.function) (λ κs. (ptr-vals, (flag-vals, (bool-vals, tt)))) (λ κs. (mut-tells (named 0) (κs .0) T.the-row, (EL.tells F.the-type F′.the-laws, (bool-tells, tt))))
-      (λ κs qs bounds a _ are. via 𝓤 _ (fst∗ 𝓤 _ (emp 𝓤)) (walk (κs .0) (qs .0) (a .0 .ptr .0) (a .0 .ptr .1) (a .0 .name) (a .0 .now) (a .1 .0) (a .1 .1 .0) (are .1 .0) (𝓣 .C) (𝓣 .Λ) (fmOf 𝓤 H (W .laws) 𝓣) known)))
+      (walked 𝓤 H A f.ended stayed (f.clauses 𝓤 H A at-mem run) (WpFn 𝓤 H (𝓣 .C) (𝓣 .Λ) code.function)
+      (λ κs. (ptr-vals, (flag-vals, (bool-vals, tt))))
+      (λ κs. (mut-tells (named 0) (κs .0) T.the-row, (EL.tells F.the-type F′.the-laws, (bool-tells, tt))))
+      (λ κs qs bounds a _ are. via 𝓤 _ (fst∗ 𝓤 _ (emp 𝓤))
+      (walk (κs .0) (qs .0) (a .0 .ptr .0) (a .0 .ptr .1) (a .0 .name) (a .0 .now) (a .1 .0) (a .1 .1 .0) (are .1 .0) (𝓣 .C) (𝓣 .Λ)
+      (fmOf 𝓤 H (W .laws) 𝓣) known)))
 
 pub set-flag-spec : {M : Type 1} → stated.statement M
 unfolding code.routine tablesOf
@@ -147,4 +185,5 @@ set-flag-spec 𝓤 H 𝓜 𝓖 𝓡 =
     entered 𝓤 H (tripleOf 𝓤 H (𝓖 .A) f.signature (f.spec 𝓤 H (𝓖 .A) (𝓜 .mem) (𝓡 .run)))
     (tables 𝓤 H 𝓜 𝓡 code.env .C) (tables 𝓤 H 𝓜 𝓡 code.env .Λ) #host·set-flag code.function (code.unfolded 𝓤 H 𝓜 𝓡)
     (meets 𝓤 H (𝓖 .A) (givenOf 𝓤 H 𝓜 𝓖) (𝓜 .mem) (𝓡 .run) (tablesOf 𝓤 H 𝓜 (tables 𝓤 H 𝓜 𝓡 code.env))
-    (cited 𝓤 H (G 𝓤 H (𝓖 .A) (givenOf 𝓤 H 𝓜 𝓖) (𝓜 .mem) (𝓡 .run)) 𝓜 𝓡 code.env #g g-def.routine code.calls-machine-state·MachineState·set-flag (g-thm.met 𝓤 H 𝓜 𝓖 𝓡)))
+    (cited 𝓤 H (G 𝓤 H (𝓖 .A) (givenOf 𝓤 H 𝓜 𝓖) (𝓜 .mem) (𝓡 .run))
+    𝓜 𝓡 code.env #g g-def.routine code.calls-machine-state·MachineState·set-flag (g-thm.met 𝓤 H 𝓜 𝓖 𝓡)))

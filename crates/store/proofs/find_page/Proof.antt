@@ -1,6 +1,5 @@
--- `find_page` gives `foundIn`: while the loop runs, no slot before i holds the page, in the whole directory; the laws
--- of `take` say that the
--- first of the slots in use is then the first of all, if it is among them.
+-- `find_page` gives `foundIn`: while the loop runs, no slot before i holds the page, in the whole directory; the laws of `take` say that
+-- the first of the slots in use is then the first of all, if it is among them.
 use mathlib.Core.Path.{sym}
 use Prim.Native.Nat.{_+_, _-_, _≤_}
 use native.Mathlib.Omega.{arith}

@@ -38,7 +38,8 @@ pub +walk-spec : {M : Type 1} → statement M
     (λ c κs. tt)
     (λ c.
     let a = c .before .before .before .before .args in
-    c .wrapping-add-u64 .ensures ∙ walked-end (storeOf (a .dir .now) (a .bytes .now) (a .used)) (a .level) (a .table) (a .address) (c .before .if1 .taken))
+    c .wrapping-add-u64 .ensures
+    ∙ walked-end (storeOf (a .dir .now) (a .bytes .now) (a .used)) (a .level) (a .table) (a .address) (c .before .if1 .taken))
     (λ c κs. c .before .before .before .pre .1)
     (λ c. omega (arith, c .before .if1 .left))
     (λ c κs.
