@@ -1,4 +1,5 @@
 pub mod Registers
 pub mod Sizes
+pub mod Operands
 pub mod Arguments
 pub mod Builder

@@ -1,19 +1,34 @@
--- Each answer's outcome belongs to it alone: the answer can be told from it. Assumes nothing.
-use mathlib.Core.Bool.{cond}
+-- Each answer's outcome belongs to it alone: the answer can be told from it, its number first. So a call's contract, which gives what the
+-- call leaves, fixes the answer, the machine, the event, the count and every lent slice. Assumes nothing.
+use mathlib.Core.Bool.{false, cond}
 use mathlib.Core.List.{List, [], _∷_}
 use mathlib.Core.Path.{_≡_, refl, sym, _∙_, ap}
-use Prim.Native.Nat.{ℕ}
+use Prim.Native.Nat.{ℕ, _≤_}
+use native.Mathlib.Omega.{arith}
+use borrow.Author.Tests.{ne-eqb}
 use lib.Dec.{eqb}
 use lib.ListN.{getD}
 use Rattle.utils.specs.Outcome.{Outcome}
 use Rattle.mmu.specs.declared.Refusal.the-variants.{BadStore, TooLong, NoRoom}
-use Rattle.machine_state.specs.Answers.{Value, word, truth, numberOf, addressOutcome, outcomeOf}
+use Rattle.mmu.proofs.Answers as memory
+use Rattle.machine_state.specs.Answers.{Value, word, truth, numberOf, addressOutcome, outcomeOf, After, left}
 use Rattle.machine_state.specs.declared.Address.{Address}
 use Rattle.machine_state.specs.declared.Address.the-variants as at
 use Rattle.machine_state.specs.declared.Answer.{Answer}
 use Rattle.machine_state.specs.declared.Answer.the-variants as answer
+use Rattle.machine_state.specs.declared.Answered.{Answered}
 use Rattle.machine_state.specs.declared.Refusal.{Refusal}
 use Rattle.machine_state.specs.declared.Refusal.the-variants.{NotAnAddress, IntoImmediate, NoScale, Memory}
+
+-- no refusal has the number 0
+pub number-some : (r : Refusal) → 1 ≤ numberOf r
+number-some NotAnAddress = omega arith
+number-some IntoImmediate = omega arith
+number-some NoScale = omega arith
+number-some (Memory r) = memory.number-some r
+
+pub not-zero : (r : Refusal) → eqb (numberOf r) 0 ≡ false
+not-zero r = let h = number-some r in ne-eqb (numberOf r) 0 (λ e. omega arith)
 
 -- the refusal of a number
 abbrev refusalOf : ℕ → Refusal
@@ -30,31 +45,49 @@ refusal-back (Memory NoRoom) = refl
 
 -- the answers of an outcome
 abbrev addressBy : ℕ → List ℕ → Address
-addressBy n [] = at.Refused (refusalOf n)
-addressBy n (a ∷ rest) = at.At a
+addressBy n vs = cond (eqb n 0) (at.At (getD vs 0 0)) (at.Refused (refusalOf n))
 
 address-back : (a : Address) → addressBy (addressOutcome a .number) (addressOutcome a .values) ≡ a
 address-back (at.At a) = refl
-address-back (at.Refused r) = ap at.Refused (refusal-back r)
+address-back (at.Refused r) = rw (not-zero r) (ap at.Refused (refusal-back r))
 
 pub address-outcome : (a b : Address) → addressOutcome a ≡ addressOutcome b → a ≡ b
 address-outcome a b e = sym (address-back a) ∙ ap (λ (o : Outcome ℕ). addressBy (o .number) (o .values)) e ∙ address-back b
 
+abbrev answerGiven : List Value → Answer
+answerGiven [] = answer.Done
+answerGiven (word v ∷ rest) = answer.Value v
+answerGiven (truth b ∷ rest) = answer.Truth b
+
 abbrev answerBy : ℕ → List Value → Answer
-answerBy n [] = cond (eqb n 0) answer.Done (answer.Refused (refusalOf n))
-answerBy n (word v ∷ rest) = answer.Value v
-answerBy n (truth b ∷ rest) = answer.Truth b
+answerBy n vs = cond (eqb n 0) (answerGiven vs) (answer.Refused (refusalOf n))
 
 answer-back : (a : Answer) → answerBy (outcomeOf a .number) (outcomeOf a .values) ≡ a
 answer-back answer.Done = refl
 answer-back (answer.Value v) = refl
 answer-back (answer.Truth b) = refl
-answer-back (answer.Refused NotAnAddress) = refl
-answer-back (answer.Refused IntoImmediate) = refl
-answer-back (answer.Refused NoScale) = refl
-answer-back (answer.Refused (Memory BadStore)) = refl
-answer-back (answer.Refused (Memory TooLong)) = refl
-answer-back (answer.Refused (Memory NoRoom)) = refl
+answer-back (answer.Refused r) = rw (not-zero r) (ap answer.Refused (refusal-back r))
 
 pub answer-outcome : (a b : Answer) → outcomeOf a ≡ outcomeOf b → a ≡ b
 answer-outcome a b e = sym (answer-back a) ∙ ap (λ (o : Outcome Value). answerBy (o .number) (o .values)) e ∙ answer-back b
+
+-- what two calls leave is equal only where all of it is: answer, machine, event and count, which an `Answered` holds, and the three slices
+pub record AllEqual (r q : Answered) (d b l d′ b′ l′ : List ℕ) : Type 0 where
+  pub answered : r ≡ q
+  pub dir : d ≡ d′
+  pub bytes : b ≡ b′
+  pub lent : l ≡ l′
+
+pub left-one : (r q : Answered) (d b l d′ b′ l′ : List ℕ) → left r d b l ≡ left q d′ b′ l′ → AllEqual r q d b l d′ b′ l′
+left-one r q d b l d′ b′ l′ e =
+    record {
+      answered = λ i. record {
+        machine = ap (λ (x : After). x .machine) e i;
+        used = ap (λ (x : After). x .store .used) e i;
+        event = ap (λ (x : After). x .event) e i;
+        answer = answer-outcome (r .answer) (q .answer) (ap (λ (x : After). x .outcome) e) i;
+      };
+      dir = ap (λ (x : After). x .store .dir) e;
+      bytes = ap (λ (x : After). x .store .bytes) e;
+      lent = ap (λ (x : After). x .lent) e;
+    }

@@ -4,7 +4,7 @@ use mathlib.Core.List.{List, [], _∷_, map}
 use Prim.Native.Nat.{ℕ, _+_, _-_, _%_, _^_}
 use lib.ListN.{length, set, replicate}
 use Rattle.utils.specs.Bytes.{toBytes, fromBytes}
-use Rattle.utils.specs.Outcome.{Outcome, gives, refuses, accepted}
+use Rattle.utils.specs.Outcome.{Outcome, gives, refuses, accepted, onValue}
 use Rattle.instruction_set.specs.Sizes.{bytesOf}
 use Rattle.instruction_set.specs.declared.ArgumentSize.{ArgumentSize}
 use Rattle.instruction_set.specs.declared.ArgumentSize.the-variants.{Bit64}
@@ -69,11 +69,7 @@ storedAt m s a z v = let r = writeMemory m s a (toBytes (bytesOf z) v) in after 
 -- ---- operands
 -- what is done at an address, or its refusal
 abbrev pub atAddress : MachineState → Store → Outcome ℕ → (ℕ → After) → After
-atAddress m s o go = pick (o .values)
-  where
-    pick : List ℕ → After
-    pick [] = after m s [] Quiet (refuses (o .number))
-    pick (a ∷ rest) = go a
+atAddress m s o go = onValue o go (after m s [] Quiet (passed o))
 
 -- "A register operand ignores the size given; an immediate reads whole"
 unfoldable pub readOperand : MachineState → Store → InstructionArgument → ArgumentSize → After

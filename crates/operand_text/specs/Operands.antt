@@ -1,5 +1,5 @@
--- The text of operands (01, "Text"), and which operands have none.
-use mathlib.Core.Bool.{Bool, true, false}
+-- The text of operands (01, "Text"). An absent scale leaves its place empty here; the calls of text then give 3 (`lacksScale`,
+-- instruction_set/specs/Operands.antt).
 use mathlib.Core.List.{List, [], _++_}
 use Prim.Native.Nat.{ℕ, suc, _*_}
 use lib.IntN.{ℤ, pos, negsuc}
@@ -52,15 +52,3 @@ operandText size (arg.EffectiveAddress b i s d) = displacementText d ++ addressT
 abbrev pub listText : ArgumentSize → InstructionArgument → SomeArgument → List ℕ
 listText size x some.Absent = operandText size x
 listText size x (some.Present y) = operandText size x ++ ascii "," ++ operandText size y
-
--- 3: "an index has no scale, where it is used"; a scale without an index is not shown
-abbrev pub lacksScale : InstructionArgument → Bool
-lacksScale (arg.Immediate v) = false
-lacksScale (arg.Register r) = false
-lacksScale (arg.EffectiveAddress b reg.Absent s d) = false
-lacksScale (arg.EffectiveAddress b (reg.Present i) scale.Absent d) = true
-lacksScale (arg.EffectiveAddress b (reg.Present i) (scale.Present s) d) = false
-
-abbrev pub someLacksScale : SomeArgument → Bool
-someLacksScale some.Absent = false
-someLacksScale (some.Present x) = lacksScale x

@@ -17,7 +17,8 @@ ghost use Prim.Native.Nat.{_*_};
 ghost use Rattle.utils.specs.Word.{cut};
 ghost use Rattle.instruction_set.specs.Sizes.{bytesOf};
 ghost use Rattle.register_names.specs.Names.{registerText};
-ghost use Rattle.operand_text.specs.Operands.{displacementText, baseText, scaleText, addressText, operandText, listText, lacksScale, someLacksScale};
+ghost use Rattle.operand_text.specs.Operands.{displacementText, baseText, scaleText, addressText, operandText, listText};
+ghost use Rattle.instruction_set.specs.Operands.{lacksScale, someLacksScale};
 ghost use Rattle.pieces.specs.Put.{Put};
 
 fn put_register(out: &mut [u8], at: usize, register: Register) -> usize

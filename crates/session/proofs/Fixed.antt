@@ -5,7 +5,7 @@ use mathlib.Core.Path.{_≡_, sym, ap, _∙_}
 use Prim.Native.Nat.{ℕ, _/_}
 use lib.Dec.{eqb, ltb}
 use lib.ListN.{length}
-use Rattle.utils.specs.Outcome.{Outcome}
+use Rattle.utils.specs.Outcome.{Outcome, accepted}
 use Rattle.instruction_set.specs.Arguments.{oneArgument, twoArguments}
 use Rattle.instruction_set.specs.declared.InstructionArgument.{InstructionArgument}
 use Rattle.instruction_set.specs.declared.InstructionArguments.{InstructionArguments}
@@ -52,13 +52,7 @@ given-one p q = meet (p .reply) (p .bytes) (q .reply) (q .bytes)
 
 module _ (l : List ℕ) {x y : List ℕ} {r r′ : Reply} where
   operands-one : (o : Outcome InstructionArgument) → OperandsGiven o l r x → OperandsGiven o l r′ y → Same r r′ x y
-  operands-one o = go (o .number) (o .values)
-    where
-      go : (n : ℕ) (vs : List InstructionArgument)
-          → OperandsGiven (record { number = n; values = vs }) l r x
-          → OperandsGiven (record { number = n; values = vs }) l r′ y → Same r r′ x y
-      go n [] p q = meet (p .0) (p .1) (q .0) (q .1)
-      go n (a ∷ rest) p q = given-one p q
+  operands-one o = either (accepted o) given-one (λ p q. meet (p .0) (p .1) (q .0) (q .1))
 
   accessed-one : (k : ℕ) (a : InstructionArguments) → Accessed k a l r x → Accessed k a l r′ y → Same r r′ x y
   accessed-one k a =

@@ -4,7 +4,7 @@ use mathlib.Core.List.{List, [], _∷_, _++_, map}
 use mathlib.Core.Path.{_≡_}
 use Prim.Native.Nat.{ℕ}
 use lib.Dec.{eqb}
-use Rattle.utils.specs.Outcome.{Outcome, refuses}
+use Rattle.utils.specs.Outcome.{Outcome, refuses, accepted}
 use Rattle.instruction_set.specs.Arguments.{selectedSize, oneArgument, twoArguments}
 use Rattle.instruction_set.specs.declared.ArgumentSize.{ArgumentSize}
 use Rattle.instruction_set.specs.declared.InstructionArgument.{InstructionArgument}
@@ -27,11 +27,7 @@ wordsOf [] = []
 wordsOf (a ∷ rest) = operandWords a ++ wordsOf rest
 
 abbrev pub OperandsGiven : Outcome InstructionArgument → List ℕ → Reply → List ℕ → Type 0
-OperandsGiven o l r l′ = pick (o .values)
-  where
-    pick : List InstructionArgument → Type 0
-    pick [] = (r ≡ replyOf (refuses (o .number)) 0) × (l′ ≡ l)
-    pick (a ∷ rest) = WordsGiven (wordsOf (a ∷ rest)) l r l′
+OperandsGiven o l r l′ = cond (accepted o) (WordsGiven (wordsOf (o .values)) l r l′) ((r ≡ replyOf (refuses (o .number)) 0) × (l′ ≡ l))
 
 -- what kinds 16, 17 and 18 ask of the arguments record of a header
 abbrev pub Accessed : ℕ → InstructionArguments → List ℕ → Reply → List ℕ → Type 0

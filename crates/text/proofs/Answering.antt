@@ -10,7 +10,10 @@ use lib.Dec.{leb·zero}
 use lib.ListN.{length, drop}
 use lib.Seq.{sets-eq}
 use Rattle.utils.specs.Outcome.{Outcome, gives, refuses}
-use Rattle.instruction_set.specs.Arguments.{selectedSize}
+use Rattle.utils.proofs.Outcomes.{on-refused}
+use Rattle.instruction_set.specs.Arguments.{numberOf, selectedSize}
+use Rattle.instruction_set.specs.declared.Refusal.{Refusal as ArgumentsRefusal}
+use Rattle.instruction_set.proofs.Outcomes.{above-seven}
 use Rattle.instruction_set.specs.declared.ArgumentSize.{ArgumentSize}
 use Rattle.instruction_set.specs.declared.InstructionArgument.{InstructionArgument}
 use Rattle.instruction_set.specs.declared.InstructionArguments.{InstructionArguments}
@@ -42,7 +45,13 @@ pub nothing-said : {d : List ℕ} → Said (says []) d d (gives (0 ∷ []))
 nothing-said {d} = record { answer = simp (leb·zero (length d)); bytes = simp (leb·zero (length d)) }
 
 -- the text of arguments whose first is there, at the size that is selected
-pub by-size : (a : InstructionArguments) {x : InstructionArgument} {o : Outcome ArgumentSize} → a .«first_argument» ≡ Present x → o ≡ selectedSize a
+pub by-size : (a : InstructionArguments) {x : InstructionArgument} {o : Outcome ArgumentSize} → a .«first_argument» ≡ Present x
+    → o ≡ selectedSize a
     → argumentsText a ≡ atSize o (λ s. listTold s x (a .«second_argument»))
 by-size a {x} {o} p q =
-    ap (λ (f : SomeArgument). argumentsOf f (a .«second_argument») (selectedSize a)) p ∙ ap (λ (z : Outcome ArgumentSize). atSize z (λ s. listTold s x (a .«second_argument»))) (sym q)
+    ap (λ (f : SomeArgument). argumentsOf f (a .«second_argument») (selectedSize a)) p
+    ∙ ap (λ (z : Outcome ArgumentSize). atSize z (λ s. listTold s x (a .«second_argument»))) (sym q)
+
+-- and where none can be, its refusal
+pub size-refused : (r : ArgumentsRefusal) (f : ArgumentSize → Told) → atSize (refuses (numberOf r)) f ≡ declines (numberOf r)
+size-refused r f = on-refused (numberOf r) [] f (declines (numberOf r)) (omega (arith, above-seven r))

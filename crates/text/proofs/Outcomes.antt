@@ -1,25 +1,24 @@
--- Each answer's outcome belongs to it alone, so that a contract which gives the outcome gives the answer; and a text call's contract fixes the
--- answer and the buffer. By cases. Assumes nothing.
-use mathlib.Core.List.{List, []}
+-- Each answer's outcome belongs to it alone, so that a contract which gives the outcome gives the answer; and a text call's contract
+-- fixes the answer and the buffer. By cases. Assumes nothing.
+use mathlib.Core.List.{List, [], _∷_}
 use mathlib.Core.Path.{_≡_, refl, sym, ap, _∙_}
-use Prim.Native.Nat.{ℕ}
+use Prim.Native.Nat.{ℕ, _≤_}
 use native.Mathlib.Omega.{arith}
 use Rattle.utils.proofs.Outcomes.{same-number, same-values, given-not-refused}
-use Rattle.instruction_set.proofs.Arms.{number-one, all}
+use Rattle.instruction_set.proofs.Arms.{number-one}
+use Rattle.instruction_set.proofs.Outcomes.{above-seven}
 use Rattle.instruction_set.proofs.Refusal.{enum}
 use Rattle.instruction_set.specs.Arguments.{numberOf as argumentsNumber}
-use Rattle.instruction_set.specs.declared.Refusal.{Refusal as ArgumentsRefusal}
-use lib.Dec.{ltb, ltb→lt}
-use Prim.Native.Nat.{_<_}
 use Rattle.text.specs.Answers.{Told, Said, numberOf, textOutcome}
 use Rattle.text.specs.declared.Refusal.{Refusal}
 use Rattle.text.specs.declared.Refusal.the-variants as refusal
 use Rattle.text.specs.declared.Text.{Text}
 use Rattle.text.specs.declared.Text.the-variants as answer
 
--- the arguments record's numbers are 8 to 11
-above-seven : (r : ArgumentsRefusal) → 7 < argumentsNumber r
-above-seven r = ltb→lt 7 (argumentsNumber r) (all enum (λ e. ltb 7 (argumentsNumber e)) tt r)
+some-number : (r : Refusal) → 1 ≤ numberOf r
+some-number refusal.NoScale = omega arith
+some-number refusal.TooLong = omega arith
+some-number (refusal.Arguments a) = omega (arith, above-seven a)
 
 refusal-one : (r s : Refusal) → numberOf r ≡ numberOf s → r ≡ s
 refusal-one refusal.NoScale refusal.NoScale e = refl
@@ -34,8 +33,8 @@ refusal-one (refusal.Arguments a) (refusal.Arguments b) e = ap refusal.Arguments
 
 pub text-outcome : (a b : Text) → textOutcome a ≡ textOutcome b → a ≡ b
 text-outcome (answer.Length m) (answer.Length n) e = let v = same-values e in cc
-text-outcome (answer.Length m) (answer.Refused s) e = absurd (given-not-refused m [] (numberOf s) e)
-text-outcome (answer.Refused r) (answer.Length n) e = absurd (given-not-refused n [] (numberOf r) (sym e))
+text-outcome (answer.Length m) (answer.Refused s) e = absurd (given-not-refused (m ∷ []) [] (numberOf s) (some-number s) e)
+text-outcome (answer.Refused r) (answer.Length n) e = absurd (given-not-refused (n ∷ []) [] (numberOf r) (some-number r) (sym e))
 text-outcome (answer.Refused r) (answer.Refused s) e = ap answer.Refused (refusal-one r s (same-number e))
 
 -- no two answers, and no two buffers, meet one contract

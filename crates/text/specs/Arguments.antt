@@ -1,15 +1,15 @@
 -- What is told of operands and of the arguments record: the text, or a refusal in its place (01, "Text").
 use mathlib.Core.Bool.{Bool, true, false}
-use mathlib.Core.List.{List, [], _∷_}
-use Prim.Native.Nat.{ℕ}
-use Rattle.utils.specs.Outcome.{Outcome}
+use mathlib.Core.List.{[]}
+use Rattle.utils.specs.Outcome.{Outcome, onValue}
 use Rattle.instruction_set.specs.Arguments.{selectedSize}
+use Rattle.instruction_set.specs.Operands.{lacksScale, someLacksScale}
 use Rattle.instruction_set.specs.declared.ArgumentSize.{ArgumentSize}
 use Rattle.instruction_set.specs.declared.InstructionArgument.{InstructionArgument}
 use Rattle.instruction_set.specs.declared.InstructionArguments.{InstructionArguments}
 use Rattle.instruction_set.specs.declared.SomeArgument.{SomeArgument}
 use Rattle.instruction_set.specs.declared.SomeArgument.the-variants as some
-use Rattle.operand_text.specs.Operands.{operandText, listText, lacksScale, someLacksScale}
+use Rattle.operand_text.specs.Operands.{operandText, listText}
 use Rattle.text.specs.Answers.{Told, says, declines}
 
 -- 3: "an index has no scale, where it is used"
@@ -24,12 +24,8 @@ abbrev pub listTold : ArgumentSize → InstructionArgument → SomeArgument → 
 listTold size x y = unless3 (lacksScale x) (unless3 (someLacksScale y) (says (listText size x y)))
 
 -- "size selection follows `size()`", with its refusals 9 and 8
-abbrev pub sized : ℕ → List ArgumentSize → (ArgumentSize → Told) → Told
-sized n [] f = declines n
-sized n (s ∷ ss) f = f s
-
 abbrev pub atSize : Outcome ArgumentSize → (ArgumentSize → Told) → Told
-atSize o f = sized (o .number) (o .values) f
+atSize o f = onValue o f (declines (o .number))
 
 -- "No arguments give empty text"; 9: "no first argument where one is needed"
 abbrev pub argumentsOf : SomeArgument → SomeArgument → Outcome ArgumentSize → Told

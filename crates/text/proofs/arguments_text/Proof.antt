@@ -1,5 +1,5 @@
 -- `arguments_text` meets its contract, by cases on the two arguments and on the size that is selected. Assumes nothing.
-use Rattle.text.proofs.Answering.{declined, nothing-said, by-size}
+use Rattle.text.proofs.Answering.{declined, nothing-said, by-size, size-refused}
 use mathlib.Core.Path.{_∙_}
 use borrow.Author.Needs.{needs}
 use Rattle.text.proofs.arguments_text.Statement.{statement}
@@ -21,7 +21,7 @@ returns-3 c =
     let first = size .before .before in
     let start = first .before .before .before in
     declined (by-size (start .args .arguments) (first .first .given .1) (size .size .ensures)
-    ∙ rw (c .before .selected .given .1))
+    ∙ rw (c .before .selected .given .1) (size-refused (c .before .selected .given .0 .0) _))
 
 returns-4 : tie.Need-returns-4
 returns-4 c =

@@ -1,6 +1,7 @@
 -- `machine_state::MachineState::get_value` meets its contract: each kind of operand is a clause of `readOperand`. Assumes nothing.
-use Rattle.machine_state.proofs.Steps.{read-address}
+use Rattle.machine_state.proofs.Steps.{read-address, address-refused}
 use Rattle.machine_state.specs.Memory.{readOperand}
+use mathlib.Core.Path.{sym}
 use borrow.Author.Needs.{needs}
 use Rattle.machine_state.proofs.MachineState.get_value.Statement.{statement}
 use Rattle.machine_state.proofs.MachineState.get_value.Tie as tie
@@ -46,6 +47,7 @@ returns-4 c =
       address2 .address2 .given .1,
       c .quietly3 .ensures,
     )
+    (sym (address-refused _ _ (address2 .address2 .given .0 .0) _))
 
 pub get-value-spec : {M : Type 1} → statement M
 get-value-spec =

@@ -1,6 +1,7 @@
 -- `machine_state::MachineState::set_value` meets its contract: each kind of operand is a clause of `writeOperand`. Assumes nothing.
-use Rattle.machine_state.proofs.Steps.{write-address}
+use Rattle.machine_state.proofs.Steps.{write-address, address-refused}
 use Rattle.machine_state.specs.Memory.{writeOperand}
+use mathlib.Core.Path.{sym}
 use borrow.Author.Needs.{needs}
 use Rattle.machine_state.proofs.MachineState.set_value.Statement.{statement}
 use Rattle.machine_state.proofs.MachineState.set_value.Tie as tie
@@ -45,6 +46,7 @@ returns-4 c =
       address2 .address2 .given .1,
       c .quietly2 .ensures,
     )
+    (sym (address-refused _ _ (address2 .address2 .given .0 .0) _))
 
 pub set-value-spec : {M : Type 1} → statement M
 set-value-spec =

@@ -20,7 +20,8 @@ returns-2 : tie.Need-returns-2
 returns-2 c =
     let found2 = c .before .before .before in
     let get-two-arguments = found2 .before .before in
-    refused-given (found2 .found2 .given .0 .0)
+    let start = get-two-arguments .before .before in
+    refused-given {l = start .args .lent .now} (found2 .found2 .given .0 .0)
     (rw (found2 .found2 .given .1) at (get-two-arguments .get-two-arguments .ensures))
     (c .before .arguments-refusal .ensures) (c .refused .ensures) refl
 
