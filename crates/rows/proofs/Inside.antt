@@ -1,5 +1,5 @@
--- Every row stands within the 182 places, so that no other place is read or rewritten: by the bounds of parents, lanes and flags, one clause for
--- each call. Assumes nothing.
+-- Every row stands within the 182 places, so that no other place is read or rewritten: by the bounds of parents, lanes and flags, one
+-- clause for each call. Assumes nothing.
 use mathlib.Core.Bool.{false}
 use mathlib.Core.Logic.{inr}
 use mathlib.Core.Path.{_≡_}
@@ -24,8 +24,9 @@ Ends s = s .start + s .count ≤ 182
 read-ends : (r : Register) → Ends (readSpan r)
 read-ends r = omega (arith, parent-below r, reads-within (partOf r))
 
+-- by either column of the register's row: that a rewrite span has the right one is for Places to say
 rewrite-ends : (r : Register) → Ends (rewriteSpan r)
-rewrite-ends r = omega (arith, parent-below r, rewrites-within (partOf r))
+rewrite-ends r = omega (arith, parent-below r, reads-within (partOf r), rewrites-within (partOf r))
 
 part-ends : (b : SomeRegister) → Ends (partSpan b)
 part-ends Absent = omega arith
@@ -37,20 +38,20 @@ no-inside = record { one = omega arith; two = omega arith; three = omega arith; 
 one-inside : (s : Span) → Ends s → Inside (spans s none none none)
 one-inside s h = record { one = h; two = omega arith; three = omega arith; four = omega arith }
 
-address-inside : (b i : SomeRegister) (s : Span) → Ends s → Inside (spans (partSpan b) (partSpan i) s none)
-address-inside b i s h = record { one = part-ends b; two = part-ends i; three = h; four = omega arith }
-
 pub reads-inside : (c : Call) → Inside (readsOf c)
 unfolding readsOf
 reads-inside (ReadOperand (arg.Register r) z) = one-inside (readSpan r) (read-ends r)
 reads-inside (ReadOperand (arg.Immediate v) z) = no-inside
-reads-inside (ReadOperand (arg.EffectiveAddress b i k d) z) = address-inside b i cr3 (omega arith)
+reads-inside (ReadOperand (arg.EffectiveAddress b i k d) z) =
+    record { one = search part-ends; two = search part-ends; three = omega arith; four = omega arith }
 reads-inside (WriteOperand (arg.Register r) z v) = no-inside
 reads-inside (WriteOperand (arg.Immediate x) z v) = no-inside
-reads-inside (WriteOperand (arg.EffectiveAddress b i k d) z v) = address-inside b i cr3 (omega arith)
+reads-inside (WriteOperand (arg.EffectiveAddress b i k d) z v) =
+    record { one = search part-ends; two = search part-ends; three = omega arith; four = omega arith }
 reads-inside (EffectiveAddress (arg.Register r)) = no-inside
 reads-inside (EffectiveAddress (arg.Immediate v)) = no-inside
-reads-inside (EffectiveAddress (arg.EffectiveAddress b i k d)) = address-inside b i none (omega arith)
+reads-inside (EffectiveAddress (arg.EffectiveAddress b i k d)) =
+    record { one = search part-ends; two = search part-ends; three = omega arith; four = omega arith }
 reads-inside Push = record { one = omega arith; two = omega arith; three = omega arith; four = omega arith }
 reads-inside Pop = record { one = omega arith; two = omega arith; three = omega arith; four = omega arith }
 reads-inside (ReadMemory a) = one-inside cr3 (omega arith)

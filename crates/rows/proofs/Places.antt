@@ -1,5 +1,5 @@
--- What a machine's registers and flags are depends on their places alone; a write renews its places, whatever was there, and keeps all others.
--- From the laws of lanes and of flags, once over the register and over the flag. Assumes nothing.
+-- What a machine's registers and flags are depends on their places alone; a change renews its places, by what it reads alone, and keeps
+-- all others. From the laws of lanes and of flags, once over the register and over the flag. Assumes nothing.
 use mathlib.Core.Bool.{Bool, true, false, _&&_, _||_}
 use mathlib.Core.List.{[], _∷_}
 use mathlib.Core.Logic.{_⊎_, inl, inr, ⊎-elim}
@@ -88,7 +88,8 @@ module _ (m n : MachineState) where
       let w = reads-within (partOf r) in
       let q = 8 * parentOf r + (firstOf (partOf r) + k) in
       sym (place-parent m (parentOf r) (firstOf (partOf r) + k) b (omega arith))
-      ∙ h (8 * parentOf r + (firstOf (partOf r) + k)) (in-yes (readSpan r) (8 * parentOf r + (firstOf (partOf r) + k)) (omega arith) (omega arith))
+      ∙ h (8 * parentOf r + (firstOf (partOf r) + k))
+      (in-yes (readSpan r) (8 * parentOf r + (firstOf (partOf r) + k)) (omega arith) (omega arith))
       ∙ place-parent n (parentOf r) (firstOf (partOf r) + k) b (omega arith))
 
   pub parent-same : (i : ℕ) → i < 22 → Sound m → Sound n → Agrees (parent i) m n → parentAt m i ≡ parentAt n i
@@ -104,7 +105,8 @@ module _ (m n : MachineState) where
   base-same reg.Absent h = refl
   base-same (reg.Present r) h = register-same r h
 
-  pub sum-same : (b i : SomeRegister) (k : SomeScale) (d : ℤ) → Agrees (partSpan b) m n → Agrees (partSpan i) m n → sumOf m b i k d ≡ sumOf n b i k d
+  pub sum-same : (b i : SomeRegister) (k : SomeScale) (d : ℤ) → Agrees (partSpan b) m n → Agrees (partSpan i) m n
+      → sumOf m b i k d ≡ sumOf n b i k d
   sum-same b reg.Absent k d h g = ap (λ (x : ℕ). gives ((x + ofZ w64 d) % 2 ^ 64 ∷ [])) (base-same b h)
   sum-same b (reg.Present r) by.Absent d h g = refl
   sum-same b (reg.Present r) (by.Present k) d h g =
@@ -117,27 +119,46 @@ module _ (m n : MachineState) where
       (sym (place-flag m f) ∙ h (flagPlace f) (in-yes (flagSpan f) (flagPlace f) (omega arith) (omega arith)) ∙ place-flag n f)
 
 -- ---- what is rewritten
--- f renews the places where w holds, whatever stood there, and keeps the others
-pub record Renews (f : MachineState → MachineState) (w : ℕ → Bool) : Type 0 where
+-- two machines agree where r holds
+abbrev pub AgreeWhere : (ℕ → Bool) → MachineState → MachineState → Type 0
+AgreeWhere r m n = (p : ℕ) → r p ≡ true → place m p ≡ place n p
+
+-- f renews the places where w holds, by what stands where r holds and by nothing else, and keeps the others
+pub record Renews (r : ℕ → Bool) (f : MachineState → MachineState) (w : ℕ → Bool) : Type 0 where
   pub good : (m : MachineState) → Sound m → Sound (f m)
   pub keeps : (m : MachineState) (p : ℕ) → Sound m → w p ≡ false → place (f m) p ≡ place m p
-  pub renews : (m n : MachineState) (p : ℕ) → Sound m → Sound n → w p ≡ true → place (f m) p ≡ place (f n) p
+  pub renews : (m n : MachineState) (p : ℕ) → Sound m → Sound n → AgreeWhere r m n → w p ≡ true → place (f m) p ≡ place (f n) p
 
-pub same-where : (f : MachineState → MachineState) (w v : ℕ → Bool) → ((p : ℕ) → v p ≡ w p) → Renews f w → Renews f v
-same-where f w v e r =
-    record { good = r .good; keeps = λ m p g h. r .keeps m p g (sym (e p) ∙ h); renews = λ m n p g k h. r .renews m n p g k (sym (e p) ∙ h) }
+pub same-where : (r : ℕ → Bool) (f : MachineState → MachineState) (w v : ℕ → Bool) → ((p : ℕ) → v p ≡ w p) → Renews r f w → Renews r f v
+same-where r f w v e a =
+    record {
+      good = a .good;
+      keeps = λ m p g h. a .keeps m p g (sym (e p) ∙ h);
+      renews = λ m n p g k q h. a .renews m n p g k q (sym (e p) ∙ h);
+    }
 
-pub and-then : (f g : MachineState → MachineState) (w v : ℕ → Bool) → Renews f w → Renews g v → Renews (λ m. g (f m)) (λ p. w p || v p)
-and-then f g w v a b =
+pub and-then : (r : ℕ → Bool) (f g : MachineState → MachineState) (w v : ℕ → Bool) → Renews r f w → Renews r g v
+    → Renews r (λ m. g (f m)) (λ p. w p || v p)
+and-then r f g w v a b =
     record {
       good = λ m h. b .good (f m) (a .good m h);
       keeps = λ m p h e. b .keeps (f m) p (a .good m h) (or-none-right (w p) (v p) e) ∙ a .keeps m p h (or-none-left (w p) (v p) e);
-      renews = λ m n p h k e. go m n p h k (tested (v p)) e;
+      renews = λ m n p h k q e. go m n p h k q (tested (v p)) e;
     }
   where
-    go : (m n : MachineState) (p : ℕ) → Sound m → Sound n → (v p ≡ true) ⊎ (v p ≡ false) → (w p || v p) ≡ true → place (g (f m)) p ≡ place (g (f n)) p
-    go m n p h k (inl t) e = b .renews (f m) (f n) p (a .good m h) (a .good n k) t
-    go m n p h k (inr t) e = b .keeps (f m) p (a .good m h) t ∙ a .renews m n p h k (first (w p) (v p) t e) ∙ sym (b .keeps (f n) p (a .good n k) t)
+    -- f's places agree after it, and the others as they did
+    agree-after : (m n : MachineState) → Sound m → Sound n → AgreeWhere r m n → AgreeWhere r (f m) (f n)
+    agree-after m n h k q p t = pick (tested (w p))
+      where
+        pick : (w p ≡ true) ⊎ (w p ≡ false) → place (f m) p ≡ place (f n) p
+        pick (inl y) = a .renews m n p h k q y
+        pick (inr z) = a .keeps m p h z ∙ q p t ∙ sym (a .keeps n p k z)
+
+    go : (m n : MachineState) (p : ℕ) → Sound m → Sound n → AgreeWhere r m n → (v p ≡ true) ⊎ (v p ≡ false) → (w p || v p) ≡ true
+        → place (g (f m)) p ≡ place (g (f n)) p
+    go m n p h k q (inl t) e = b .renews (f m) (f n) p (a .good m h) (a .good n k) (agree-after m n h k q) t
+    go m n p h k q (inr t) e =
+        b .keeps (f m) p (a .good m h) t ∙ a .renews m n p h k q (first (w p) (v p) t e) ∙ sym (b .keeps (f n) p (a .good n k) t)
       where
         first : (x y : Bool) → y ≡ false → (x || y) ≡ true → x ≡ true
         first true y t e = refl
@@ -148,7 +169,13 @@ module _ (r : Register) (v : ℕ) where
   write-good : (m : MachineState) → Sound m → Sound (writeReg m r v)
   unfolding writeReg
   write-good m g =
-      record { parents = length-set (m .regs) (parentOf r) _ ∙ g .parents; words = λ i h. go i h (ℕ-discrete i (parentOf r)); flags = g .flags; tables = g .tables }
+      record {
+        parents = length-set (m .regs) (parentOf r) _
+            ∙ g .parents;
+        words = λ i h. go i h (ℕ-discrete i (parentOf r));
+        flags = g .flags;
+        tables = g .tables;
+      }
     where
       x : ℕ
       x = writeOf (partOf r) (parentAt m (parentOf r)) v
@@ -156,14 +183,16 @@ module _ (r : Register) (v : ℕ) where
       go : (i : ℕ) → i < 22 → Dec (i ≡ parentOf r) → getD (set (m .regs) (parentOf r) x) i 0 < 2 ^ 64
       go i h (yes e) =
           let fits : parentOf r < length (m .regs) = omega (arith, parent-below r, g .parents) in
-          rw (e, getD-set-same (m .regs) (parentOf r) x 0 fits) (write-part-word (partOf r) (parentAt m (parentOf r)) v (g .words (parentOf r) (parent-below r)))
+          rw (e, getD-set-same (m .regs) (parentOf r) x 0 fits)
+          (write-part-word (partOf r) (parentAt m (parentOf r)) v (g .words (parentOf r) (parent-below r)))
       go i h (no e) = rw (getD-set-other (m .regs) (parentOf r) i x 0 e) (g .words i h)
 
   write-far : (m : MachineState) (p : ℕ) → 176 ≤ p → place (writeReg m r v) p ≡ place m p
   unfolding place writeReg
   write-far m p h = simp (le-ltb p 176 h)
 
-  write-kept : (m : MachineState) (p : ℕ) → Sound m → inSpan (rewriteSpan r) p ≡ false → Dec (p < 176) → place (writeReg m r v) p ≡ place m p
+  write-kept : (m : MachineState) (p : ℕ) → Sound m → inSpan (rewriteSpan r) p ≡ false → Dec (p < 176)
+      → place (writeReg m r v) p ≡ place m p
   write-kept m p g h (yes l) =
       place-lane (writeReg m r v) p l
       ∙ write-out m r v (g .parents) (p / 8) (p % 8)
@@ -172,7 +201,7 @@ module _ (r : Register) (v : ℕ) where
       ∙ sym (place-lane m p l)
   write-kept m p g h (no l) = write-far m p (omega (arith, l))
 
-  write-new : (m : MachineState) (p : ℕ) → Sound m → inSpan (rewriteSpan r) p ≡ true
+  pub write-new : (m : MachineState) (p : ℕ) → Sound m → inSpan (rewriteSpan r) p ≡ true
       → place (writeReg m r v) p ≡ lane (p - (8 * parentOf r + firstOf (partOf r))) (v % 2 ^ (8 * lanesRead (partOf r)))
   write-new m p g h =
       let lo : 8 * parentOf r + firstOf (partOf r) ≤ p = in-low (rewriteSpan r) p h in
@@ -181,21 +210,23 @@ module _ (r : Register) (v : ℕ) where
       let w = rewrites-within (partOf r) in
       let k = p - (8 * parentOf r + firstOf (partOf r)) in
       let e : p ≡ 8 * parentOf r + (firstOf (partOf r) + (p - (8 * parentOf r + firstOf (partOf r)))) = omega arith in
-      ap (place (writeReg m r v)) e ∙ place-parent (writeReg m r v) (parentOf r) (firstOf (partOf r) + (p - (8 * parentOf r + firstOf (partOf r)))) b (omega arith)
+      ap (place (writeReg m r v)) e
+      ∙ place-parent (writeReg m r v) (parentOf r) (firstOf (partOf r) + (p - (8 * parentOf r + firstOf (partOf r)))) b (omega arith)
       ∙ write-in m r v (g .parents) (p - (8 * parentOf r + firstOf (partOf r))) (omega arith)
 
-  pub register-renews : Renews (λ m. writeReg m r v) (inSpan (rewriteSpan r))
-  register-renews =
+  pub register-renews : (by : ℕ → Bool) → Renews by (λ m. writeReg m r v) (inSpan (rewriteSpan r))
+  register-renews by =
       record {
         good = write-good;
         keeps = λ m p g h. write-kept m p g h (decLt p 176);
-        renews = λ m n p g k h. write-new m p g h ∙ sym (write-new n p k h);
+        renews = λ m n p g k q h. write-new m p g h ∙ sym (write-new n p k h);
       }
 
 -- rsp, which push and pop move, is a register written whole
 put-all : (x y : ℕ) → x < 2 ^ 64 → y < 2 ^ 64 → put x 0 64 (y % 2 ^ 64) ≡ y
 put-all x y h l =
-    sym (cut-all (put x 0 64 (y % 2 ^ 64)) 64 (put-lt x 0 64 (y % 2 ^ 64) 64 (omega arith) h)) ∙ put-inside x 0 64 (y % 2 ^ 64) 0 64 (omega arith)
+    sym (cut-all (put x 0 64 (y % 2 ^ 64)) 64 (put-lt x 0 64 (y % 2 ^ 64) 64 (omega arith) h))
+    ∙ put-inside x 0 64 (y % 2 ^ 64) 0 64 (omega arith)
     ∙ cut-mod y 64 0 64 (omega arith)
     ∙ cut-all y 64 l
 
@@ -238,21 +269,25 @@ module _ (f : Flags) (b : Bool) where
       rule : (eqb j (flagPlace f - 176) || (leb (bitAt j + bitsAt j) (bitOf f) || leb (bitOf f + 1) (bitAt j))) ≡ true
       rule = below-at 10 (away f) (all-away f) j l
 
-      pick : (leb (bitAt j + bitsAt j) (bitOf f) ≡ true) ⊎ (leb (bitAt j + bitsAt j) (bitOf f) ≡ false) → (bitAt j + bitsAt j ≤ bitOf f) ⊎ (bitOf f + 1 ≤ bitAt j)
+      pick : (leb (bitAt j + bitsAt j) (bitOf f) ≡ true) ⊎ (leb (bitAt j + bitsAt j) (bitOf f) ≡ false)
+          → (bitAt j + bitsAt j ≤ bitOf f) ⊎ (bitOf f + 1 ≤ bitAt j)
       pick (inl t) = inl (leb-true (bitAt j + bitsAt j) (bitOf f) t)
       pick (inr e) = inr (leb-true (bitOf f + 1) (bitAt j) (rw (ne-eqb j (flagPlace f - 176) ne, e) at rule))
 
-  flag-kept : (m : MachineState) (p : ℕ) → inSpan (flagSpan f) p ≡ false → Dec (p < 176) → Dec (p < 186) → place (setFlag m f b) p ≡ place m p
+  flag-kept : (m : MachineState) (p : ℕ) → inSpan (flagSpan f) p ≡ false → Dec (p < 176) → Dec (p < 186)
+      → place (setFlag m f b) p ≡ place m p
   flag-kept m p h (yes l) d = place-lane (setFlag m f b) p l ∙ sym (place-lane m p l)
   flag-kept m p h (no l) (no d) = place-rest (setFlag m f b) p (omega (arith, d)) ∙ sym (place-rest m p (omega (arith, d)))
   flag-kept m p h (no l) (yes d) =
       let a : 176 ≤ p = omega (arith, l) in
       place-bits (setFlag m f b) p a d
       ∙ bits-kept (m .rflags) f b (bitAt (p - 176)) (bitsAt (p - 176))
-      (beside (p - 176) (omega arith) (λ e. let o = flag-from f in ⊎-elim (λ (q : p < flagPlace f). omega arith) (λ (q : flagPlace f + 1 ≤ p). omega arith) (in-no (flagSpan f) p h)))
+      (beside (p - 176) (omega arith)
+      (λ e. let o = flag-from f in
+      ⊎-elim (λ (q : p < flagPlace f). omega arith) (λ (q : flagPlace f + 1 ≤ p). omega arith) (in-no (flagSpan f) p h)))
       ∙ sym (place-bits m p a d)
 
-  flag-new : (m : MachineState) (p : ℕ) → inSpan (flagSpan f) p ≡ true → place (setFlag m f b) p ≡ cut (boolBit b) 0 1
+  pub flag-new : (m : MachineState) (p : ℕ) → inSpan (flagSpan f) p ≡ true → place (setFlag m f b) p ≡ cut (boolBit b) 0 1
   unfolding putFlag
   flag-new m p h =
       let lo : flagPlace f ≤ p = in-low (flagSpan f) p h in
@@ -262,19 +297,20 @@ module _ (f : Flags) (b : Bool) where
       ap (place (setFlag m f b)) e ∙ place-flag (setFlag m f b) f ∙ ap (λ (k : ℕ). cut (put (m .rflags) (bitOf f) 1 (boolBit b)) k 1) z
       ∙ put-inside (m .rflags) (bitOf f) 1 (boolBit b) 0 1 (omega arith)
 
-  pub flag-renews : Renews (λ m. setFlag m f b) (inSpan (flagSpan f))
-  flag-renews =
+  pub flag-renews : (by : ℕ → Bool) → Renews by (λ m. setFlag m f b) (inSpan (flagSpan f))
+  flag-renews by =
       record {
         good = λ m g. record { parents = g .parents; words = g .words; flags = flag-word (m .rflags) f b (g .flags); tables = g .tables };
         keeps = λ m p g h. flag-kept m p h (decLt p 176) (decLt p 186);
-        renews = λ m n p g k h. flag-new m p h ∙ sym (flag-new n p h);
+        renews = λ m n p g k q h. flag-new m p h ∙ sym (flag-new n p h);
       }
 
+-- one flag more
+pub then-flag : {by : ℕ → Bool} {f : MachineState → MachineState} {w : ℕ → Bool} (g : Flags) (b : Bool) → Renews by f w
+    → Renews by (λ m. setFlag (f m) g b) (λ p. w p || inSpan (flagSpan g) p)
+then-flag {by} {f} {w} g b a = and-then by f (λ m. setFlag m g b) w (inSpan (flagSpan g)) a (flag-renews g b by)
+
 -- `compute_flags` sets three
-pub computed-renews : (x : ℕ) (z : ArgumentSize) → Renews (λ m. computeFlags m x z) (λ p. (inSpan (flagSpan Zero) p || inSpan (flagSpan Sign) p) || inSpan (flagSpan Parity) p)
-computed-renews x z =
-    and-then (λ m. setFlag (setFlag m Zero (eqb x 0)) Sign (signIn z x)) (λ m. setFlag m Parity (evenOnes x)) (λ p. inSpan (flagSpan Zero) p || inSpan (flagSpan Sign) p)
-    (inSpan (flagSpan Parity))
-    (and-then (λ m. setFlag m Zero (eqb x 0)) (λ m. setFlag m Sign (signIn z x)) (inSpan (flagSpan Zero)) (inSpan (flagSpan Sign)) (flag-renews Zero (eqb x 0))
-    (flag-renews Sign (signIn z x)))
-    (flag-renews Parity (evenOnes x))
+pub computed-renews : (by : ℕ → Bool) (x : ℕ) (z : ArgumentSize)
+    → Renews by (λ m. computeFlags m x z) (λ p. (inSpan (flagSpan Zero) p || inSpan (flagSpan Sign) p) || inSpan (flagSpan Parity) p)
+computed-renews by x z = then-flag Parity (evenOnes x) (then-flag Sign (signIn z x) (flag-renews Zero (eqb x 0) by))
