@@ -1,5 +1,5 @@
--- Demand 3: the report is exactly the list of exposed places that the theorem on forgotten readers speaks of, place by place, and a report is fixed
--- by its outcome. Assumes nothing.
+-- Demand 3: the report is exactly the list of exposed places that the theorem on forgotten readers speaks of, place by place, and a
+-- report is fixed by its outcome. Assumes nothing.
 use mathlib.Core.Bool.{Bool, true, false, not, _&&_, _||_}
 use mathlib.Core.List.{List, [], _∷_, _++_, map}
 use mathlib.Core.Path.{_≡_, refl, sym, ap, _∙_}
@@ -13,7 +13,7 @@ use Rattle.rows.specs.Exposed.{exposed, Exposes}
 use Rattle.rows.specs.Places.{Act, reads, rewrites}
 use Rattle.rows.specs.Rows.{readsOf, rewritesOf, inSpans}
 use Rattle.rows.proofs.Theorem.{exposed-says, exposed-where}
-use Rattle.exposed.specs.Reported.{verdictOutcome, reportOutcome, Says, entryReads, entryRewrites, reported}
+use Rattle.exposed.specs.Reported.{verdictOutcome, reportOutcome, Says, entryReads, entryRewrites, entryOf, reported}
 use Rattle.exposed.specs.declared.CallEntry.{CallEntry}
 use Rattle.exposed.specs.declared.Report.{Report}
 use Rattle.exposed.specs.declared.Verdict.{Verdict}
@@ -21,21 +21,20 @@ use Rattle.exposed.specs.declared.Verdict.the-variants.{Listed, TooManyC
 use Rattle.exposed.proofs.Marking.{getD-listed, listing-refused}
 
 -- ---- "The exposed list reported for up to 64 calls is exactly this one"
-abbrev pub entryOf : Act → CallEntry
-entryOf a = record { call = a .call }
-
 same-exposed : (acts : List Act) (p : ℕ) → exposed entryReads entryRewrites (map entryOf acts) p ≡ exposed reads rewrites acts p
 unfolding exposed reads rewrites entryReads entryRewrites
 same-exposed [] p = refl
-same-exposed (a ∷ rest) p = ap (λ (b : Bool). inSpans (readsOf (a .call)) p || not (inSpans (rewritesOf (a .call)) p) && b) (same-exposed rest p)
+same-exposed (a ∷ rest) p =
+    ap (λ (b : Bool). inSpans (readsOf (a .call)) p || not (inSpans (rewritesOf (a .call)) p) && b) (same-exposed rest p)
 
 module _ (acts : List Act) (rest : List CallEntry) (few : length acts ≤ 64) where
-  -- it is accepted, and whatever stands behind the calls in the array
+  -- it is accepted, whatever stands behind the calls in the array
   pub report-accepted : reported (map entryOf acts ++ rest) (length acts) .outcome ≡ gives []
   unfolding reported
   report-accepted = simp (le-leb (length acts) 64 few)
 
-  pub report-exact : (p : ℕ) → p < 182 → getD (reported (map entryOf acts ++ rest) (length acts) .places) p false ≡ exposed reads rewrites acts p
+  pub report-exact : (p : ℕ) → p < 182
+      → getD (reported (map entryOf acts ++ rest) (length acts) .places) p false ≡ exposed reads rewrites acts p
   unfolding reported
   report-exact p l =
       let e : take (length acts) (map entryOf acts ++ rest) ≡ map entryOf acts =
@@ -46,14 +45,17 @@ module _ (acts : List Act) (rest : List CallEntry) (few : length acts ≤ 64) wh
       ∙ same-exposed acts p)
 
   -- in the demand's words: a yes where some call reads the place and no earlier call has rewritten it, and only there
-  pub report-says : (p : ℕ) → p < 182 → getD (reported (map entryOf acts ++ rest) (length acts) .places) p false ≡ true → Exposes reads rewrites acts p
+  pub report-says : (p : ℕ) → p < 182 → getD (reported (map entryOf acts ++ rest) (length acts) .places) p false ≡ true
+      → Exposes reads rewrites acts p
   report-says p l h = exposed-says acts p (sym (report-exact p l) ∙ h)
 
-  pub report-where : (p : ℕ) → p < 182 → Exposes reads rewrites acts p → getD (reported (map entryOf acts ++ rest) (length acts) .places) p false ≡ true
+  pub report-where : (p : ℕ) → p < 182 → Exposes reads rewrites acts p
+      → getD (reported (map entryOf acts ++ rest) (length acts) .places) p false ≡ true
   report-where p l e = report-exact p l ∙ exposed-where acts p e
 
 -- "12: more than 64 calls in a reported list", and all no
-pub report-refused : (calls : List CallEntry) (n : ℕ) → 64 < n → _≡_ {A = Says} record { outcome = refuses 12; places = replicate 182 false } (reported calls n)
+pub report-refused : (calls : List CallEntry) (n : ℕ) → 64 < n
+    → _≡_ {A = Says} record { outcome = refuses 12; places = replicate 182 false } (reported calls n)
 report-refused calls n h = listing-refused calls n h
 
 -- ---- a verdict can be told from its outcome, so that the contract of `exposed_places` fixes the whole report

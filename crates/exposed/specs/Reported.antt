@@ -7,6 +7,7 @@ use lib.Dec.{leb}
 use lib.ListN.{length, getD, take, replicate}
 use Rattle.utils.specs.Outcome.{Outcome, gives, refuses}
 use Rattle.rows.specs.Exposed.{exposed}
+use Rattle.rows.specs.Places.{Act}
 use Rattle.rows.specs.Rows.{readsOf, rewritesOf, inSpans}
 use Rattle.exposed.specs.declared.CallEntry.{CallEntry}
 use Rattle.exposed.specs.declared.Report.{Report}
@@ -37,6 +38,10 @@ entryReads e p = inSpans (readsOf (e .call)) p
 
 unfoldable pub entryRewrites : CallEntry → ℕ → Bool
 entryRewrites e p = inSpans (rewritesOf (e .call)) p
+
+-- a call of a list, without the bytes lent to it, as an entry of a reported list
+abbrev pub entryOf : Act → CallEntry
+entryOf a = record { call = a .call }
 
 -- "A reported list has room for 64 calls and states a count": the exposed places of the first n calls; all no where the list is refused
 unfoldable pub reported : List CallEntry → ℕ → Says

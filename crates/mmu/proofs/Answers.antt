@@ -39,7 +39,7 @@ refusal-one NoRoom BadStore e = absurd (omega arith)
 refusal-one NoRoom TooLong e = absurd (omega arith)
 refusal-one NoRoom NoRoom e = refl
 
-number-some : (a : Refusal) → 1 ≤ numberOf a
+pub number-some : (a : Refusal) → 1 ≤ numberOf a
 number-some BadStore = omega arith
 number-some TooLong = omega arith
 number-some NoRoom = omega arith
@@ -68,7 +68,8 @@ pub out-refused : (s : Store) (cr3 a n : ℕ) (out : List ℕ) → 1 ≤ n → r
 unfolding readOut
 out-refused s cr3 a n out h e = rw e (rw (ne-eqb n 0 (λ q. omega arith)))
 
-pub out-done : (s : Store) (cr3 a : ℕ) (out : List ℕ) → readOutcome s (length out) ≡ gives [] → readOut s cr3 a out ≡ readAt s (physical s cr3 a) (length out)
+pub out-done : (s : Store) (cr3 a : ℕ) (out : List ℕ) → readOutcome s (length out) ≡ gives []
+    → readOut s cr3 a out ≡ readAt s (physical s cr3 a) (length out)
 unfolding readOut
 out-done s cr3 a out e = rw e
 
@@ -86,16 +87,19 @@ pub write-long : (s : Store) (p n : ℕ) → sound s ≡ true → 4096 < n → w
 unfolding writeOutcome
 write-long s p n e h = rw (e, lt-leb n 4096 h)
 
-pub write-full : (s : Store) (p n : ℕ) → sound s ≡ true → n ≤ 4096 → unused s < absentOf (live s) (touched p n) → writeOutcome s p n ≡ refuses 6
+pub write-full : (s : Store) (p n : ℕ) → sound s ≡ true → n ≤ 4096 → unused s < absentOf (live s) (touched p n)
+    → writeOutcome s p n ≡ refuses 6
 unfolding writeOutcome
 write-full s p n e b r = rw (e, le-leb n 4096 b, lt-leb _ _ r)
 
-pub write-done : (s : Store) (p n : ℕ) → sound s ≡ true → n ≤ 4096 → absentOf (live s) (touched p n) ≤ unused s → writeOutcome s p n ≡ gives []
+pub write-done : (s : Store) (p n : ℕ) → sound s ≡ true → n ≤ 4096 → absentOf (live s) (touched p n) ≤ unused s
+    → writeOutcome s p n ≡ gives []
 unfolding writeOutcome
 write-done s p n e b r = rw (e, le-leb n 4096 b, le-leb _ _ r)
 
 pub write-empty : (s : Store) (p n : ℕ) → sound s ≡ true → n ≡ 0 → writeOutcome s p n ≡ gives []
-write-empty s p n e z = write-done s p n e (omega arith) (rw z (let q : absentOf (live s) (touched p 0) ≡ 0 = unfold touched absentOf in refl in omega arith))
+write-empty s p n e z =
+    write-done s p n e (omega arith) (rw z (let q : absentOf (live s) (touched p 0) ≡ 0 = unfold touched absentOf in refl in omega arith))
 
 -- accepted exactly when: a sound store, at most 4,096 bytes, and no more absent pages than unused slots
 pub record Accepted (s : Store) (p n : ℕ) : Type 0 where
@@ -103,12 +107,10 @@ pub record Accepted (s : Store) (p n : ℕ) : Type 0 where
   pub short : n ≤ 4096
   pub room : absentOf (live s) (touched p n) ≤ unused s
 
-pub accepts-if : (s : Store) (p n : ℕ) → Accepted s p n → writeOutcome s p n ≡ gives []
-accepts-if s p n a = write-done s p n (a .sound) (a .short) (a .room)
-
 pub accepts-only : (s : Store) (p n : ℕ) → writeOutcome s p n ≡ gives [] → Accepted s p n
 unfolding writeOutcome
-accepts-only s p n e = go (sound s) refl (leb n 4096) refl (leb (absentOf (live s) (touched p n)) (unused s)) refl (ap (λ (o : Outcome ℕ). o .number) e)
+accepts-only s p n e =
+    go (sound s) refl (leb n 4096) refl (leb (absentOf (live s) (touched p n)) (unused s)) refl (ap (λ (o : Outcome ℕ). o .number) e)
   where
     go : (a : Bool) → sound s ≡ a → (b : Bool) → leb n 4096 ≡ b → (c : Bool) → leb (absentOf (live s) (touched p n)) (unused s) ≡ c
         → cond a (cond b (cond c (gives []) (outcomeOf (Refused NoRoom))) (refuses 5)) (refuses 4) .number ≡ 0 → Accepted s p n
@@ -117,11 +119,26 @@ accepts-only s p n e = go (sound s) refl (leb n 4096) refl (leb (absentOf (live 
     go true x false y c z w = absurd (omega arith)
     go false x b y c z w = absurd (omega arith)
 
+-- an outcome whose number is 0 is that of a write that is done
+pub write-accepted : (s : Store) (p n : ℕ) → writeOutcome s p n .number ≡ 0 → writeOutcome s p n ≡ gives []
+unfolding writeOutcome
+write-accepted s p n e = go (sound s) (leb n 4096) (leb (absentOf (live s) (touched p n)) (unused s)) e
+  where
+    tested : Bool → Bool → Bool → Outcome ℕ
+    tested a b c = cond a (cond b (cond c (gives []) (refuses 6)) (refuses 5)) (refuses 4)
+
+    go : (a b c : Bool) → tested a b c .number ≡ 0 → tested a b c ≡ gives []
+    go true true true e = refl
+    go true true false e = absurd (omega arith)
+    go true false c e = absurd (omega arith)
+    go false b c e = absurd (omega arith)
+
 pub accepted-fits : (s : Store) (p n : ℕ) → Accepted s p n → Fits s p n
 accepted-fits s p n a = let h = sound-facts s (a .sound) in record { sound = h; room = omega (arith, h .fits, a .room) }
 
 -- ---- a write: the store afterwards
-pub store-done : (s : Store) (p : ℕ) (d : List ℕ) → writeOutcome s p (length d) ≡ gives [] → writeStore s p d ≡ written s p (byteOf d) (length d)
+pub store-done : (s : Store) (p : ℕ) (d : List ℕ) → writeOutcome s p (length d) ≡ gives []
+    → writeStore s p d ≡ written s p (byteOf d) (length d)
 unfolding writeStore
 store-done s p d e = rw e
 
@@ -171,12 +188,14 @@ shown-empty p [] h = refl
 shown-empty p (b ∷ d) h = absurd (omega arith)
 
 -- ---- all that a write owes, from what the code's steps give
-pub wrote-refused : (s : Store) (p : ℕ) (d : List ℕ) (r : Refusal) → writeOutcome s p (length d) ≡ refuses (numberOf r) → Wrote s s p d (Refused r) Dark
+pub wrote-refused : (s : Store) (p : ℕ) (d : List ℕ) (r : Refusal) → writeOutcome s p (length d) ≡ refuses (numberOf r)
+    → Wrote s s p d (Refused r) Dark
 wrote-refused s p d r e =
     let n = number-some r in
     record { answer = sym e; shown = sym (dark-refused s p (numberOf r) d n e); store = sym (store-refused s p (numberOf r) d n e) }
 
-pub wrote-done : (s t : Store) (p : ℕ) (d : List ℕ) (e : Shown) → writeOutcome s p (length d) ≡ gives [] → t ≡ written s p (byteOf d) (length d) → e ≡ shownAt p d
+pub wrote-done : (s t : Store) (p : ℕ) (d : List ℕ) (e : Shown) → writeOutcome s p (length d) ≡ gives []
+    → t ≡ written s p (byteOf d) (length d) → e ≡ shownAt p d
     → Wrote s t p d Done e
 wrote-done s t p d e o et ee = record { answer = sym o; shown = ee ∙ sym (shown-done s p d o); store = et ∙ sym (store-done s p d o) }
 
@@ -186,7 +205,8 @@ wrote-empty s p d e z = wrote-done s s p d Dark (write-empty s p (length d) e z)
 
 -- copied at once into the slot of its page
 pub wrote-here : (s : Store) → Sound s → (p i : ℕ) (d b : List ℕ) (e : Shown) → slotOf (live s) p (length d) ≡ At i → length d ≤ 4096
-    → b ≡ filled (s .bytes) (4096 * i + p % 4096) (bytesOf d 0) (length d) → e ≡ shownAt p d → Wrote s (storeOf (s .dir) b (s .used)) p d Done e
+    → b ≡ filled (s .bytes) (4096 * i + p % 4096) (bytesOf d 0) (length d) → e ≡ shownAt p d
+    → Wrote s (storeOf (s .dir) b (s .used)) p d Done e
 wrote-here s h p i d b e q short eb ee =
     let w = slot-at (live s) p (length d) i q in
     wrote-done s (storeOf (s .dir) b (s .used)) p d e
@@ -199,8 +219,10 @@ pub wrote-there : {s t : Store} {p q : ℕ} {d : List ℕ} {r : Answer} {e : Sho
 wrote-there h w = rw (sym h) w
 
 -- ---- a write's contract leaves no choice
-pub wrote-one : (s t t′ : Store) (p : ℕ) (d : List ℕ) (r r′ : Answer) (e e′ : Shown) → Wrote s t p d r e → Wrote s t′ p d r′ e′ → (r ≡ r′) × (e ≡ e′) × (t ≡ t′)
-wrote-one s t t′ p d r r′ e e′ w w′ = (outcome-one r r′ (w .answer ∙ sym (w′ .answer)), w .shown ∙ sym (w′ .shown), w .store ∙ sym (w′ .store))
+pub wrote-one : (s t t′ : Store) (p : ℕ) (d : List ℕ) (r r′ : Answer) (e e′ : Shown) → Wrote s t p d r e → Wrote s t′ p d r′ e′
+    → (r ≡ r′) × (e ≡ e′) × (t ≡ t′)
+wrote-one s t t′ p d r r′ e e′ w w′ =
+    (outcome-one r r′ (w .answer ∙ sym (w′ .answer)), w .shown ∙ sym (w′ .shown), w .store ∙ sym (w′ .store))
 
 -- the answer of a refused write, as the code hands it back
 pub wrote-refused-for : (s : Store) (p : ℕ) (d : List ℕ) (r : Refusal) (w : Written) → RefusedFor w r (s .used)

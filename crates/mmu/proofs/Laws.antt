@@ -1,12 +1,15 @@
--- The laws of an accepted write, for the crates above, which never open `written`: its bytes read as given, every other byte as before, what the count is,
--- and which slots it leaves alone. None of them asks that a number stands once in the directory. They read Growth's laws through `writeStore`.
-use mathlib.Core.Path.{_≡_, sym, _∙_}
+-- The laws of an accepted write, for the crates above, which never open `written`: its bytes read as given, every other byte as before,
+-- what the count is, and which slots it leaves alone. None of them asks that a number stands once in the directory. They read Growth's
+-- laws through `writeStore`.
+use mathlib.Core.Path.{_≡_, refl, sym, ap, _∙_}
 use mathlib.Core.Logic.{_⊎_, inl, inr, ⊎-elim}
-use mathlib.Core.Bool.{true}
+use mathlib.Core.Bool.{Bool, true, false, cond, _&&_}
 use mathlib.Core.List.{List, []}
-use Prim.Native.Nat.{ℕ, _+_, _*_, _/_, _<_, _≤_}
+use Prim.Native.Nat.{ℕ, _+_, _-_, _*_, _/_, _<_, _≤_}
 use native.Mathlib.Omega.{arith}
+use lib.Dec.{ltb, leb}
 use lib.ListN.{length, getD}
+use borrow.Author.Tests.{leb-true, leb-false, ltb-true, ltb-false}
 use Rattle.utils.specs.Outcome.{gives}
 use Rattle.store.specs.Store.{Store, sound, live, byteAt, readAt, written, touched, absentOf}
 use Rattle.mmu.specs.Walk.{physical, entriesRead, Alike}
@@ -39,6 +42,20 @@ module _ (s : Store) (p : ℕ) (d : List ℕ) (e : writeOutcome s p (length d) �
   pub law-out : (q : ℕ) → (q < p) ⊎ (p + length d ≤ q) → byteAt (writeStore s p d) q ≡ byteAt s q
   law-out q w = rw (store-done s p d e) (written-out s (fits .sound) p (byteOf d) (length d) q within w)
 
+  -- the two in one, by the tests whether the byte is one of the run's
+  pub law-byte : (q : ℕ) → byteAt (writeStore s p d) q ≡ cond (leb p q && ltb q (p + length d)) (getD d (q - p) 0) (byteAt s q)
+  law-byte q = go (leb p q) refl (ltb q (p + length d)) refl
+    where
+      go : (a : Bool) → leb p q ≡ a → (b : Bool) → ltb q (p + length d) ≡ b
+          → byteAt (writeStore s p d) q ≡ cond (a && b) (getD d (q - p) 0) (byteAt s q)
+      go true x true y =
+          let l = leb-true p q x in
+          let r = ltb-true q (p + length d) y in
+          let k : p + (q - p) ≡ q = omega arith in
+          ap (byteAt (writeStore s p d)) (sym k) ∙ law-in (q - p) (omega arith)
+      go true x false y = law-out q (inr (ltb-false q (p + length d) y))
+      go false x b y = law-out q (inl (leb-false p q x))
+
   -- the store stays sound, with as many slots
   pub law-sound : sound (writeStore s p d) ≡ true
   law-sound = rw (store-done s p d e) (sound-true (written s p (byteOf d) (length d)) (kept .sound))
@@ -69,7 +86,8 @@ module _ (s : Store) (p : ℕ) (d : List ℕ) (e : writeOutcome s p (length d) �
   law-read = tab-ext (λ (k : ℕ). byteAt (writeStore s p d) (p + k)) (λ (k : ℕ). getD d k 0) (length d) law-in ∙ sym (tab-getD d)
 
   -- a write that goes over none of the three entries of a walk leaves the walk as it was
-  pub law-walk : (cr3 a : ℕ) → ((j : ℕ) → j < 3 → (getD (entriesRead s 3 cr3 a) j 0 + 8 ≤ p) ⊎ (p + length d ≤ getD (entriesRead s 3 cr3 a) j 0))
+  pub law-walk : (cr3 a : ℕ)
+      → ((j : ℕ) → j < 3 → (getD (entriesRead s 3 cr3 a) j 0 + 8 ≤ p) ⊎ (p + length d ≤ getD (entriesRead s 3 cr3 a) j 0))
       → physical (writeStore s p d) cr3 a ≡ physical s cr3 a
   law-walk cr3 a apart = sym (walk-same s (writeStore s p d) cr3 a same)
     where

@@ -2,4 +2,3 @@ pub mod Turns
 pub mod Walked
 pub mod Answers
 pub mod Laws
-pub mod History

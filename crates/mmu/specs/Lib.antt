@@ -1,4 +1,3 @@
 pub mod Walk
 pub mod Calls
 pub mod Parts
-pub mod History

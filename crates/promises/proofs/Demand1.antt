@@ -1,13 +1,13 @@
 -- Demand 1 of every call: by the call, and within it by whether memory's part is refused. Assumes nothing.
 use mathlib.Core.Bool.{Bool, true, false, cond}
-use mathlib.Core.List.{List, [], _∷_, map}
-use mathlib.Core.Path.{_≡_, refl, sym, _∙_, ap}
-use Prim.Native.Nat.{ℕ, _≤_}
+use mathlib.Core.List.{List, [], map}
+use mathlib.Core.Path.{_≡_, refl, ap}
+use Prim.Native.Nat.{ℕ}
 use borrow.Author.Tests.{ne-eqb}
-use lib.Dec.{eqb, leb}
+use lib.Dec.{leb}
 use lib.ListN.{length, replicate}
 use Rattle.utils.specs.Bytes.{toBytes, fromBytes}
-use Rattle.utils.specs.Outcome.{Outcome, gives, refuses}
+use Rattle.utils.specs.Outcome.{gives, refuses}
 use Rattle.instruction_set.specs.Sizes.{bytesOf}
 use Rattle.instruction_set.specs.declared.ArgumentSize.{ArgumentSize}
 use Rattle.instruction_set.specs.declared.ArgumentSize.the-variants.{Bit64}
@@ -20,12 +20,11 @@ use Rattle.mmu.specs.Calls.{readOutcome, readOut, writeOutcome, writeStore, sho
 use Rattle.store.specs.Store.{Store, sound, live, unused, touched, absentOf}
 use Rattle.mmu.specs.Walk.{physical}
 use Rattle.machine_state.specs.Address.{addressOf}
-use Rattle.machine_state.specs.Answers.{Value, word, After}
+use Rattle.machine_state.specs.Answers.{word, After}
 use Rattle.machine_state.specs.Memory.{after, passed, cr3, rsp, below, readMemory, writeMemory, valued, withValue, loaded, storedAt, readOperand, writeOperand, moved, pushed, popped}
 use Rattle.machine_state.specs.declared.Event.the-variants.{Quiet}
 use Rattle.machine_state.specs.declared.MachineState.{MachineState}
 use Rattle.calls.specs.Step.{step, beside}
-use Rattle.calls.specs.declared.Call.{Call}
 use Rattle.calls.specs.declared.Call.the-variants.{ReadOperand, WriteOperand, EffectiveAddress, Push, Pop, ReadMemory, WriteMemory, TestFlag, SetFlag, ComputeFlags}
 use Rattle.promises.specs.Untouched.{Untouched, RefusedUntouched}
 
@@ -99,7 +98,8 @@ module _ (m : MachineState) (s : Store) (l : List ℕ) (r : After) where
     values = u .values;
   }
 
-load-untouched : (m : MachineState) (s : Store) (a : ℕ) (z : ArgumentSize) → (loaded m s a z .outcome .number ≡ 0 → ⊥) → Untouched m s [] (loaded m s a z)
+load-untouched : (m : MachineState) (s : Store) (a : ℕ) (z : ArgumentSize) → (loaded m s a z .outcome .number ≡ 0 → ⊥)
+    → Untouched m s [] (loaded m s a z)
 unfolding loaded
 load-untouched m s a z h =
     let o = replicate {A = ℕ} (bytesOf z) 0 in
@@ -107,7 +107,8 @@ load-untouched m s a z h =
     let v = memoryValue z (fromBytes (r .lent)) in
     value-untouched m s o r v h (read-untouched m s a o (valued-refused m s o r v h))
 
-store-untouched : (m : MachineState) (s : Store) (a : ℕ) (z : ArgumentSize) (v : ℕ) → (storedAt m s a z v .outcome .number ≡ 0 → ⊥) → Untouched m s [] (storedAt m s a z v)
+store-untouched : (m : MachineState) (s : Store) (a : ℕ) (z : ArgumentSize) (v : ℕ) → (storedAt m s a z v .outcome .number ≡ 0 → ⊥)
+    → Untouched m s [] (storedAt m s a z v)
 unfolding storedAt
 store-untouched m s a z v h =
     let d = toBytes (bytesOf z) v in
@@ -117,7 +118,8 @@ store-untouched m s a z v h =
 plain : (m : MachineState) (s : Store) (n : ℕ) → Untouched m s [] (after m s [] Quiet (refuses n))
 plain m s n = record { machine = refl; store = refl; lent = refl; event = refl; values = refl }
 
-operand-read : (m : MachineState) (s : Store) (a : InstructionArgument) (z : ArgumentSize) → (readOperand m s a z .outcome .number ≡ 0 → ⊥) → Untouched m s [] (readOperand m s a z)
+operand-read : (m : MachineState) (s : Store) (a : InstructionArgument) (z : ArgumentSize)
+    → (readOperand m s a z .outcome .number ≡ 0 → ⊥) → Untouched m s [] (readOperand m s a z)
 unfolding readOperand addressOf
 operand-read m s (arg.Register r) z h = absurd (h refl)
 operand-read m s (arg.Immediate v) z h = absurd (h refl)
@@ -125,7 +127,8 @@ operand-read m s (arg.EffectiveAddress b reg.Absent k d) z h = load-untouched m 
 operand-read m s (arg.EffectiveAddress b (reg.Present r) by.Absent d) z h = plain m s 3
 operand-read m s (arg.EffectiveAddress b (reg.Present r) (by.Present n) d) z h = load-untouched m s _ z h
 
-operand-written : (m : MachineState) (s : Store) (a : InstructionArgument) (z : ArgumentSize) (v : ℕ) → (writeOperand m s a z v .outcome .number ≡ 0 → ⊥) → Untouched m s [] (writeOperand m s a z v)
+operand-written : (m : MachineState) (s : Store) (a : InstructionArgument) (z : ArgumentSize) (v : ℕ)
+    → (writeOperand m s a z v .outcome .number ≡ 0 → ⊥) → Untouched m s [] (writeOperand m s a z v)
 unfolding writeOperand addressOf
 operand-written m s (arg.Register r) z v h = absurd (h refl)
 operand-written m s (arg.Immediate x) z v h = plain m s 2
@@ -133,12 +136,14 @@ operand-written m s (arg.EffectiveAddress b reg.Absent k d) z v h = store-untouc
 operand-written m s (arg.EffectiveAddress b (reg.Present r) by.Absent d) z v h = plain m s 3
 operand-written m s (arg.EffectiveAddress b (reg.Present r) (by.Present n) d) z v h = store-untouched m s _ z v h
 
-addressed : (m : MachineState) (s : Store) (l : List ℕ) (a : InstructionArgument) → (passed (addressOf m a) .number ≡ 0 → ⊥) → Untouched m s l (step (EffectiveAddress a) m s l)
+addressed : (m : MachineState) (s : Store) (l : List ℕ) (a : InstructionArgument) → (passed (addressOf m a) .number ≡ 0 → ⊥)
+    → Untouched m s l (step (EffectiveAddress a) m s l)
 unfolding step addressOf
 addressed m s l (arg.Register r) h = record { machine = refl; store = refl; lent = refl; event = refl; values = refl }
 addressed m s l (arg.Immediate v) h = record { machine = refl; store = refl; lent = refl; event = refl; values = refl }
 addressed m s l (arg.EffectiveAddress b reg.Absent k d) h = absurd (h refl)
-addressed m s l (arg.EffectiveAddress b (reg.Present r) by.Absent d) h = record { machine = refl; store = refl; lent = refl; event = refl; values = refl }
+addressed m s l (arg.EffectiveAddress b (reg.Present r) by.Absent d) h =
+    record { machine = refl; store = refl; lent = refl; event = refl; values = refl }
 addressed m s l (arg.EffectiveAddress b (reg.Present r) (by.Present n) d) h = absurd (h refl)
 
 pub refused-untouched : RefusedUntouched

@@ -1,143 +1,395 @@
--- Demand 2's laws: memory's from the laws of mmu, registers' and flags' by induction on the list from the laws of one write. Assumes nothing.
-use mathlib.Core.Bool.{Bool, true, false, cond, _&&_}
-use mathlib.Core.List.{List, [], _∷_, map}
+-- Demand 2's laws. One write: from the laws of mmu. Lists: what one call gives to a byte, to a place and to the count, a call at a time,
+-- and then one induction over the list for all of them (`last-is`). Assumes nothing.
+use mathlib.Core.Bool.{Bool, true, false, cond, _&&_, _||_, and-false}
+use mathlib.Core.List.{List, [], _∷_}
 use mathlib.Core.Logic.{_⊎_, inl, inr}
 use mathlib.Core.Path.{_≡_, refl, sym, _∙_, ap}
-use Prim.Native.Nat.{ℕ, _+_, _-_, _*_, _%_, _^_, _<_, _≤_}
-use native.Mathlib.Decide.{ℕ-discrete, decLt, decLe}
+use Prim.Native.Nat.{ℕ, _+_, _-_, _%_, _^_, _<_, _≤_}
+use native.Mathlib.Nat.{mod-lt}
 use native.Mathlib.Omega.{arith}
-use borrow.Author.Tests.{eq-eqb, ne-eqb, le-leb, lt-leb, lt-ltb, le-ltb}
+use borrow.Author.Tests.{eqb-true}
 use lib.Dec.{eqb, ltb, leb}
-use lib.ListN.{length, length-set, set}
-use Rattle.utils.specs.Outcome.{Outcome, gives, refuses}
+use lib.ListN.{length, getD, set, replicate, length-replicate}
+use lib.Pow.{pow-pos}
+use lib.Seq.{getD-set-same, getD-set-other, set-set, set-getD}
+use Rattle.utils.proofs.Bools.{tested}
+use Rattle.utils.specs.Bytes.{toBytes, fromBytes}
+use Rattle.utils.proofs.Bytes.{from-to, length-toBytes}
+use Rattle.instruction_set.specs.Sizes.{bytesOf}
+use Rattle.fields.specs.Parts.{memoryValue}
+use Rattle.utils.specs.Outcome.{gives, accepted}
 use Rattle.utils.specs.Word.{cut, lane}
-use Rattle.instruction_set.specs.Registers.{parentOf, partOf, firstOf, readsOf, rewritesOf}
-use Rattle.instruction_set.specs.Sizes.{bitOf}
+use Rattle.instruction_set.specs.Registers.{row}
+use Rattle.instruction_set.specs.declared.ArgumentSize.{ArgumentSize}
+use Rattle.instruction_set.specs.declared.ArgumentSize.the-variants.{Bit64}
 use Rattle.instruction_set.specs.declared.Flags.{Flags}
-use Rattle.instruction_set.specs.declared.Register.{Register}
-use Rattle.fields.specs.FlagBits.{bitSet, flagOf, putFlag}
-use Rattle.fields.proofs.FlagLaws.{flag-back, bits-kept}
+use Rattle.instruction_set.specs.declared.Flags.the-variants.{Parity, Zero, Sign}
+use Rattle.instruction_set.specs.declared.InstructionArgument.the-variants as arg
+use Rattle.instruction_set.specs.declared.Register.the-variants.{RSP}
+use Rattle.instruction_set.specs.declared.SomeRegister.the-variants as reg
+use Rattle.instruction_set.specs.declared.SomeScale.the-variants as by
+use Rattle.fields.specs.FlagBits.{boolBit, evenOnes, signIn}
+use Rattle.fields.proofs.FlagLaws.{flag-back}
 use Rattle.mmu.specs.Calls.{readOutcome, readOut, writeOutcome, writeStore}
-use Rattle.store.specs.Store.{Store, sound, readAt, byteAt}
+use Rattle.store.specs.Store.{Store, sound, byteAt}
 use Rattle.mmu.specs.Walk.{physical}
-use Rattle.mmu.proofs.Answers.{read-done, out-done, write-done, accepts-only}
-use Rattle.mmu.specs.History.{Change, after, lastByte}
-use Rattle.mmu.proofs.History.{last-writer}
-use Rattle.mmu.proofs.Laws.{law-out, law-read, law-sound}
-use Rattle.machine_state.specs.Answers.{Value, word, After}
-use Rattle.machine_state.specs.Flagged.{flagIn, setFlag}
-use Rattle.machine_state.specs.Machine.{parentAt, writeReg}
-use Rattle.machine_state.specs.Memory.{cr3, passed, readMemory, writeMemory}
+use Rattle.mmu.proofs.Answers.{read-done, out-done, accepts-only, write-accepted}
+use Rattle.mmu.proofs.Laws.{law-out, law-byte, law-read, law-sound, law-walk, law-count}
+use Rattle.mmu.proofs.Walked.{physical-off}
+use Rattle.machine_state.specs.Address.{addressOf}
+use Rattle.machine_state.specs.Answers.{word, After}
+use Rattle.machine_state.specs.Flagged.{setFlag, computeFlags}
+use Rattle.machine_state.specs.Memory.{rsp, cr3, withRsp, after, passed, readMemory, writeMemory, loaded, storedAt, readOperand, writeOperand, below, pushed, popped}
+use Rattle.machine_state.specs.declared.Event.the-variants.{Quiet}
 use Rattle.machine_state.specs.declared.MachineState.{MachineState}
-use Rattle.machine_state.proofs.Lanes.{write-in, write-out, write-read}
-use Rattle.promises.specs.Demand2.{ReadsAccepted, WritesAccepted, ReadsBack, OthersStay, Storing, stored, AllStored, places, BytesLast, RegistersBack, Write, written, rewrites, leaves, lastLane, LanesLast, Setting, settings, lastFlag, FlagsLast}
+use Rattle.machine_state.proofs.Lanes.{write-read}
+use Rattle.calls.specs.Step.{step}
+use Rattle.calls.specs.declared.Call.{Call}
+use Rattle.calls.specs.declared.Call.the-variants.{ReadOperand, WriteOperand, EffectiveAddress, Push, Pop, ReadMemory, WriteMemory, TestFlag, SetFlag, ComputeFlags}
+use Rattle.rows.specs.Exposed.{end}
+use Rattle.rows.specs.Places.{Act, State, Sound, place, does, rewrites}
+use Rattle.rows.specs.Rows.{nothing as noSpans, flagSpan, rewriteSpan, rewritesOf, inSpan, inSpans}
+use Rattle.rows.proofs.Owed.{owes}
+use Rattle.rows.proofs.Places.{write-new, flag-new, flag-renews, rsp-written}
+use Rattle.rows.proofs.Theorem.{stays-sound}
+use Rattle.rows.proofs.Within.{in-low, in-high, in-out, one-only, three-only, nothing-in}
+use Rattle.promises.specs.Demand2.{ReadsBack, WalkStays, OthersStay, PopsBack, RegistersBack, OperandsBack, FlagsBack, Given, nothing, ifSo, holding, last, byteWritten, byteGiven, BytesLast, placeValue, placeGiven, PlacesLast, slotsFor, slotsTaken, allTaken, CountRule}
+use Rattle.promises.specs.Refusals.{Access, none, reading, writing, accessOf}
+use Rattle.promises.proofs.Demand1.{refused-untouched}
 
--- ---- memory
-pub reads-accepted : ReadsAccepted
+-- ---- one write
+module _ (m : MachineState) (s : Store) (a : ℕ) (d : List ℕ) (e : accepted (writeMemory m s a d .outcome) ≡ true) where
+  fits : writeOutcome s (physical s (cr3 m) a) (length d) ≡ gives []
+  unfolding writeMemory
+  fits = write-accepted s (physical s (cr3 m) a) (length d) (eqb-true (writeOutcome s (physical s (cr3 m) a) (length d) .number) 0 e)
+
+  -- the store stays one
+  pub sound-after : sound (writeMemory m s a d .store) ≡ true
+  unfolding writeMemory
+  sound-after = law-sound s (physical s (cr3 m) a) d fits
+
+  -- a read of as many bytes is accepted after it, and gives them
+  read-after : (out : List ℕ) → length out ≡ length d → readOutcome (writeMemory m s a d .store) (length out) ≡ gives []
+  read-after out n =
+      let q = accepts-only s (physical s (cr3 m) a) (length d) fits in
+      read-done (writeMemory m s a d .store) (length out) sound-after (omega (arith, q .short))
+
+  read-back : (out : List ℕ) → length out ≡ length d → physical (writeMemory m s a d .store) (cr3 m) a ≡ physical s (cr3 m) a
+      → readOut (writeMemory m s a d .store) (cr3 m) a out ≡ d
+  unfolding writeMemory
+  read-back out n w =
+      let t = writeStore s (physical s (cr3 m) a) d in
+      out-done t (cr3 m) a out (read-after out n) ∙ rw (w, n) (law-read s (physical s (cr3 m) a) d fits)
+
+pub reads-accepted : (m : MachineState) (s : Store) (a : ℕ) (out : List ℕ) → sound s ≡ true → length out ≤ 4096
+    → readMemory m s a out .outcome ≡ gives []
 unfolding readMemory
 reads-accepted m s a out h n = ap passed (read-done s (length out) h n)
 
-pub writes-accepted : WritesAccepted
-unfolding writeMemory
-writes-accepted m s a d h n r = ap passed (write-done s (physical s (cr3 m) a) (length d) h n r)
-
--- an outcome that is passed on as accepted is accepted
-unpassed : (o : Outcome ℕ) → passed o ≡ gives [] → o ≡ gives []
-unpassed o e = λ i. record { number = ap (λ (p : Outcome Value). p .number) e i; values = none (o .values) (ap (λ (p : Outcome Value). p .values) e) i }
-  where
-    none : (vs : List ℕ) → map word vs ≡ [] → vs ≡ []
-    none [] h = refl
-    none (v ∷ vs) h = absurd (let z : _≡_ {A = ℕ} 0 1 = cc in omega arith)
-
-module _ (m : MachineState) (s : Store) (a : ℕ) (d : List ℕ) (e : writeMemory m s a d .outcome ≡ gives []) where
-  p : ℕ
-  p = physical s (cr3 m) a
-
-  fits : writeOutcome s (physical s (cr3 m) a) (length d) ≡ gives []
-  unfolding writeMemory
-  fits = unpassed (writeOutcome s (physical s (cr3 m) a) (length d)) e
-
-  read-back : (out : List ℕ) → length out ≡ length d → physical (writeMemory m s a d .store) (cr3 m) a ≡ physical s (cr3 m) a → readMemory m (writeMemory m s a d .store) a out .lent ≡ d
-  unfolding writeMemory readMemory
-  read-back out n w =
-      let t = writeStore s (physical s (cr3 m) a) d in
-      let q = accepts-only s (physical s (cr3 m) a) (length d) fits in
-      let o : readOutcome t (length out) ≡ gives [] = read-done t (length out) (law-sound s (physical s (cr3 m) a) d fits) (omega (arith, q .short)) in
-      out-done t (cr3 m) a out o ∙ rw (w, n) (law-read s (physical s (cr3 m) a) d fits)
-
--- and the store stays one
-pub sound-after : (m : MachineState) (s : Store) (a : ℕ) (d : List ℕ) → writeMemory m s a d .outcome ≡ gives [] → sound (writeMemory m s a d .store) ≡ true
-unfolding writeMemory
-sound-after m s a d e = law-sound s (physical s (cr3 m) a) d (unpassed (writeOutcome s (physical s (cr3 m) a) (length d)) e)
-
 pub reads-back : ReadsBack
+unfolding readMemory
 reads-back m s a d out e n w = read-back m s a d e out n w
+
+pub walk-stays : WalkStays
+unfolding writeMemory
+walk-stays m s a d b e (inl z) = physical-off (writeStore s (physical s (cr3 m) a) d) (cr3 m) b z ∙ sym (physical-off s (cr3 m) b z)
+walk-stays m s a d b e (inr apart) = law-walk s (physical s (cr3 m) a) d (fits m s a d e) (cr3 m) b apart
 
 pub others-stay : OthersStay
 unfolding writeMemory
-others-stay m s a d e q h = law-out s (physical s (cr3 m) a) d (unpassed (writeOutcome s (physical s (cr3 m) a) (length d)) e) q h
+others-stay m s a d e q h = law-out s (physical s (cr3 m) a) d (fits m s a d e) q h
 
-pub bytes-last : BytesLast
-unfolding lastByte after writeMemory
-bytes-last m s [] q h = refl
-bytes-last m s (w ∷ ws) q h =
-    let p = physical s (cr3 m) (w .address) in
-    let c : Change = record { place = p; bytes = w .bytes } in
-    bytes-last m (writeStore s p (w .bytes)) ws q (h .1)
-    ∙ ap (λ (b : ℕ). lastByte b (places m (writeStore s p (w .bytes)) ws) q) (last-writer s (c ∷ []) q (unpassed (writeOutcome s p (length (w .bytes))) (h .0), tt))
+pub operands-back : OperandsBack
+unfolding storedAt loaded readMemory
+operands-back m s a z v e w =
+    let d = toBytes (bytesOf z) v in
+    let o = replicate {A = ℕ} (bytesOf z) 0 in
+    let n : length o ≡ length d = length-replicate (bytesOf z) 0 ∙ sym (length-toBytes (bytesOf z) v) in
+    rw (read-after m s a d e o n, read-back m s a d e o n w) (ap (λ (x : ℕ). gives (word (memoryValue z x) ∷ [])) (from-to (bytesOf z) v))
 
--- ---- registers
+pub flags-back : FlagsBack
+flags-back m f b = flag-back (m .rflags) f b
+
 pub registers-back : RegistersBack
 registers-back m r v h = write-read m r v h
 
-regs-kept : (m : MachineState) (r : Register) (v : ℕ) → length (m .regs) ≡ 22 → length (writeReg m r v .regs) ≡ 22
-unfolding writeReg
-regs-kept m r v h = length-set (m .regs) (parentOf r) _ ∙ h
+-- ---- a push and then a pop
+module _ (m : MachineState) (g : Sound m) where
+  rsp-set : (x : ℕ) → rsp (withRsp m x) ≡ x
+  rsp-set x = getD-set-same (m .regs) 4 x 0 (omega (arith, g .parents))
 
-one-write : (m : MachineState) (w : Write) → length (m .regs) ≡ 22 → (i j : ℕ) → lane j (parentAt (writeReg m (w .register) (w .value)) i) ≡ cond (rewrites (w .register) i j) (leaves w j) (lane j (parentAt m i))
-unfolding rewrites
-one-write m w h i j = go (ℕ-discrete i (parentOf r)) (decLe (firstOf (partOf r)) j) (decLt j (firstOf (partOf r) + rewritesOf (partOf r)))
+  cr3-kept : (x : ℕ) → cr3 (withRsp m x) ≡ cr3 m
+  cr3-kept x = getD-set-other (m .regs) 4 19 x 0 (λ e. omega arith)
+
+  rsp-back : (x y : ℕ) → y ≡ rsp m → withRsp (withRsp m x) y ≡ m
+  rsp-back x y e =
+      let regs : set (set (m .regs) 4 x) 4 y ≡ m .regs =
+      set-set (m .regs) 4 x y ∙ ap (λ (v : ℕ). set (m .regs) 4 v) e ∙ set-getD (m .regs) 4 0 in
+      λ i. record { regs = regs i; rflags = m .rflags; gdt = m .gdt; idt = m .idt }
+
+  up-again : (below (rsp m) 8 + 8) % 2 ^ 64 ≡ rsp m
+  up-again = let h = g .words 4 (omega arith) in omega arith
+
+loaded-is : (m : MachineState) (s : Store) (a : ℕ) (d : List ℕ) → readOutcome s 8 ≡ gives [] → readOut s (cr3 m) a (replicate 8 0) ≡ d
+    → loaded m s a Bit64 ≡ after m s [] Quiet (gives (word (fromBytes d) ∷ []))
+unfolding loaded readMemory
+loaded-is m s a d e f = rw (e, f)
+
+popped-is : (n : MachineState) (s : Store) (v : ℕ) → loaded n s (rsp n) Bit64 ≡ after n s [] Quiet (gives (word v ∷ []))
+    → popped n s ≡ after (withRsp n ((rsp n + 8) % 2 ^ 64)) s [] Quiet (gives (word v ∷ []))
+unfolding popped
+popped-is n s v e = rw e
+
+write-machine : (m : MachineState) (s : Store) (a : ℕ) (d : List ℕ) → writeMemory m s a d .machine ≡ m
+unfolding writeMemory
+write-machine m s a d = refl
+
+pub pops-back : PopsBack
+unfolding pushed
+pops-back m s d g n e w =
+    let x = below (rsp m) 8 in
+    let there : below (rsp m) (length d) ≡ x = ap (below (rsp m)) n in
+    rw (e, there, write-machine m s x d)
+    (let o : accepted (writeMemory m s x d .outcome) ≡ true = rw there at e in
+    let t = writeMemory m s x d .store in
+    let z = replicate {A = ℕ} 8 0 in
+    let k = withRsp m x in
+    let b : readOut t (cr3 k) x z ≡ d = rw (cr3-kept m g x) (read-back m s x d o z (sym n) (rw there at w)) in
+    let r : loaded k t (rsp k) Bit64 ≡ after k t [] Quiet (gives (word (fromBytes d) ∷ [])) =
+    rw (rsp-set m g x) (loaded-is k t x d (read-after m s x d o z (sym n)) b) in
+    popped-is k t (fromBytes d) r ∙ ap (λ (y : MachineState). after y t [] Quiet (gives (word (fromBytes d) ∷ [])))
+    (rsp-back m g x ((rsp k + 8) % 2 ^ 64) (ap (λ (v : ℕ). (v + 8) % 2 ^ 64) (rsp-set m g x) ∙ up-again m g)))
+
+-- ---- lists: what holds of each call holds of the list
+last-is : (given : Act → State → Given) (of : State → ℕ) (Good : State → Type 0) → ((a : Act) (x : State) → Good x → Good (does a x .after))
+    → ((a : Act) (x : State) → Good x → of (does a x .after) ≡ holding (given a x) (of x))
+    → (acts : List Act) (x : State) → Good x → of (end does acts x) ≡ last given acts x (of x)
+unfolding end last
+last-is given of Good keep one [] x g = refl
+last-is given of Good keep one (a ∷ acts) x g =
+    last-is given of Good keep one acts (does a x .after) (keep a x g) ∙ ap (last given acts (does a x .after)) (one a x g)
+
+-- ---- memory: the store after a call is what its access leaves, and a writing call is accepted where its write is
+abbrev storeBy : MachineState → Store → Access → Store
+storeBy m s none = s
+storeBy m s (reading x n) = s
+storeBy m s (writing x d) = writeStore s (physical s (cr3 m) x) d
+
+abbrev NumberBy : MachineState → Store → ℕ → Access → Type 0
+NumberBy m s k none = Unit {0}
+NumberBy m s k (reading x n) = Unit {0}
+NumberBy m s k (writing x d) = k ≡ writeOutcome s (physical s (cr3 m) x) (length d) .number
+
+record Accessed (c : Call) (m : MachineState) (s : Store) (l : List ℕ) : Type 0 where
+  store : step c m s l .store ≡ storeBy m s (accessOf c m l)
+  number : NumberBy m s (step c m s l .outcome .number) (accessOf c m l)
+
+accessed : (c : Call) (m : MachineState) (s : Store) (l : List ℕ) → Accessed c m s l
+unfolding step readOperand writeOperand addressOf loaded storedAt pushed popped readMemory writeMemory accessOf
+accessed (ReadOperand (arg.Register r) z) m s l = record { store = refl; number = tt }
+accessed (ReadOperand (arg.Immediate v) z) m s l = record { store = refl; number = tt }
+accessed (ReadOperand (arg.EffectiveAddress b reg.Absent k d) z) m s l = record { store = refl; number = tt }
+accessed (ReadOperand (arg.EffectiveAddress b (reg.Present r) by.Absent d) z) m s l = record { store = refl; number = tt }
+accessed (ReadOperand (arg.EffectiveAddress b (reg.Present r) (by.Present n) d) z) m s l = record { store = refl; number = tt }
+accessed (WriteOperand (arg.Register r) z v) m s l = record { store = refl; number = tt }
+accessed (WriteOperand (arg.Immediate x) z v) m s l = record { store = refl; number = tt }
+accessed (WriteOperand (arg.EffectiveAddress b reg.Absent k d) z v) m s l = record { store = refl; number = refl }
+accessed (WriteOperand (arg.EffectiveAddress b (reg.Present r) by.Absent d) z v) m s l = record { store = refl; number = tt }
+accessed (WriteOperand (arg.EffectiveAddress b (reg.Present r) (by.Present n) d) z v) m s l = record { store = refl; number = refl }
+accessed (EffectiveAddress a) m s l = record { store = refl; number = tt }
+accessed Push m s l = record { store = refl; number = refl }
+accessed Pop m s l = record { store = refl; number = tt }
+accessed (ReadMemory a) m s l = record { store = refl; number = tt }
+accessed (WriteMemory a) m s l = record { store = refl; number = refl }
+accessed (TestFlag f) m s l = record { store = refl; number = tt }
+accessed (SetFlag f b) m s l = record { store = refl; number = tt }
+accessed (ComputeFlags x z) m s l = record { store = refl; number = tt }
+
+-- what no test decides
+either : {X : Type 0} (b : Bool) (x : X) → cond b x x ≡ x
+either true x = refl
+either false x = refl
+
+store-stays : (s : Store) (p k : ℕ) (d : List ℕ) → k ≡ writeOutcome s p (length d) .number → eqb k 0 ≡ false → writeStore s p d ≡ s
+unfolding writeStore
+store-stays s p k d h f = rw (sym (ap (λ (j : ℕ). eqb j 0) h) ∙ f)
+
+module _ (m : MachineState) (s : Store) (k : ℕ) where
+  byte-by : (g : Access) (q : ℕ) → NumberBy m s k g
+      → byteAt (storeBy m s g) q ≡ holding (cond (eqb k 0) (byteWritten m s g q) nothing) (byteAt s q)
+  byte-by none q h = rw (either (eqb k 0) nothing)
+  byte-by (reading x n) q h = rw (either (eqb k 0) nothing)
+  byte-by (writing x d) q h = go (tested (eqb k 0))
+    where
+      p : ℕ
+      p = physical s (cr3 m) x
+
+      inside : (b : Bool) (v w : ℕ) → cond b v w ≡ holding (ifSo b v) w
+      inside true v w = refl
+      inside false v w = refl
+
+      go : (eqb k 0 ≡ true) ⊎ (eqb k 0 ≡ false)
+          → byteAt (writeStore s p d) q ≡ holding (cond (eqb k 0) (byteWritten m s (writing x d) q) nothing) (byteAt s q)
+      go (inl t) =
+          let e = write-accepted s p (length d) (sym h ∙ eqb-true k 0 t) in
+          rw t (law-byte s p d e q ∙ inside (leb p q && ltb q (p + length d)) (getD d (q - p) 0) (byteAt s q))
+      go (inr f) = rw f (ap (λ (u : Store). byteAt u q) (store-stays s p k d h f))
+
+  count-by : (g : Access) → NumberBy m s k g → storeBy m s g .used ≡ s .used + cond (eqb k 0) (slotsFor m s g) 0
+  count-by none h = rw (either {X = ℕ} (eqb k 0) 0) (omega arith)
+  count-by (reading x n) h = rw (either {X = ℕ} (eqb k 0) 0) (omega arith)
+  count-by (writing x d) h = go (tested (eqb k 0))
+    where
+      p : ℕ
+      p = physical s (cr3 m) x
+
+      go : (eqb k 0 ≡ true) ⊎ (eqb k 0 ≡ false) → writeStore s p d .used ≡ s .used + cond (eqb k 0) (slotsFor m s (writing x d)) 0
+      go (inl t) = rw t (law-count s p d (write-accepted s p (length d) (sym h ∙ eqb-true k 0 t)))
+      go (inr f) = rw f (omega (arith, ap (λ (u : Store). u .used) (store-stays s p k d h f)))
+
+one-byte : (q : ℕ) (a : Act) (x : State) → byteAt (does a x .after .store) q ≡ holding (byteGiven q a x) (byteAt (x .store) q)
+unfolding does
+one-byte q a x =
+    let c = accessed (a .call) (x .machine) (x .store) (a .lent) in
+    ap (λ (s : Store). byteAt s q) (c .store)
+    ∙ byte-by (x .machine) (x .store) (step (a .call) (x .machine) (x .store) (a .lent) .outcome .number)
+    (accessOf (a .call) (x .machine) (a .lent)) q (c .number)
+
+pub bytes-last : BytesLast
+bytes-last acts x q = last-is (byteGiven q) (λ y. byteAt (y .store) q) (λ y. Unit {0}) (λ a y g. tt) (λ a y g. one-byte q a y) acts x tt
+
+-- ---- the count
+one-count : (a : Act) (x : State) → does a x .after .store .used ≡ x .store .used + slotsTaken a x
+unfolding does
+one-count a x =
+    let c = accessed (a .call) (x .machine) (x .store) (a .lent) in
+    ap (λ (s : Store). s .used) (c .store)
+    ∙ count-by (x .machine) (x .store) (step (a .call) (x .machine) (x .store) (a .lent) .outcome .number)
+    (accessOf (a .call) (x .machine) (a .lent)) (c .number)
+
+pub count-rule : CountRule
+unfolding end allTaken
+count-rule [] x = omega arith
+count-rule (a ∷ acts) x = omega (arith, count-rule acts (does a x .after), one-count a x)
+
+-- ---- places: what an accepted call gives to those of its row
+bit-kept : (b : Bool) → cut (boolBit b) 0 1 ≡ boolBit b
+unfolding cut
+bit-kept true = refl
+bit-kept false = refl
+
+module _ (m : MachineState) (g : Sound m) (p : ℕ) where
+  rsp-new : (x : ℕ) → x < 2 ^ 64 → inSpan (rewriteSpan RSP) p ≡ true → place (withRsp m x) p ≡ lane (p - 32) x
+  unfolding row
+  rsp-new x lt h =
+      let e : x % 2 ^ 64 ≡ x = omega arith in
+      ap (λ (n : MachineState). place n p) (rsp-written m x g lt) ∙ write-new RSP x m p g h ∙ ap (lane (p - 32)) e
+
+  one-flag : (f : Flags) (b : Bool) → inSpan (flagSpan f) p ≡ true → place (setFlag m f b) p ≡ boolBit b
+  one-flag f b h = flag-new f b m p h ∙ bit-kept b
+
+nowhere : ℕ → Bool
+nowhere p = false
+
+-- `compute_flags` sets Zero, then Sign, then Parity, and none of them touches the others
+module _ (m : MachineState) (g : Sound m) (v : ℕ) (z : ArgumentSize) where
+  zeroed-good : Sound (setFlag m Zero (eqb v 0))
+  zeroed-good = flag-renews Zero (eqb v 0) nowhere .good m g
+
+  signed-good : Sound (setFlag (setFlag m Zero (eqb v 0)) Sign (signIn z v))
+  signed-good = flag-renews Sign (signIn z v) nowhere .good (setFlag m Zero (eqb v 0)) zeroed-good
+
+  parity-new : (p : ℕ) → inSpan (flagSpan Parity) p ≡ true → place (computeFlags m v z) p ≡ boolBit (evenOnes v)
+  parity-new p h = one-flag (setFlag (setFlag m Zero (eqb v 0)) Sign (signIn z v)) signed-good p Parity (evenOnes v) h
+
+  sign-new : (p : ℕ) → inSpan (flagSpan Sign) p ≡ true → place (computeFlags m v z) p ≡ boolBit (signIn z v)
+  sign-new p h =
+      let lo : 179 ≤ p = in-low (flagSpan Sign) p h in
+      flag-renews Parity (evenOnes v) nowhere .keeps (setFlag (setFlag m Zero (eqb v 0)) Sign (signIn z v)) p signed-good
+      (in-out (flagSpan Parity) p (inr (omega arith)))
+      ∙ one-flag (setFlag m Zero (eqb v 0)) zeroed-good p Sign (signIn z v) h
+
+  zero-new : (p : ℕ) → inSpan (flagSpan Zero) p ≡ true → place (computeFlags m v z) p ≡ boolBit (eqb v 0)
+  zero-new p h =
+      let lo : 178 ≤ p = in-low (flagSpan Zero) p h in
+      let hi : p < 179 = in-high (flagSpan Zero) p h in
+      flag-renews Parity (evenOnes v) nowhere .keeps (setFlag (setFlag m Zero (eqb v 0)) Sign (signIn z v)) p signed-good
+      (in-out (flagSpan Parity) p (inr (omega arith)))
+      ∙ flag-renews Sign (signIn z v) nowhere .keeps (setFlag m Zero (eqb v 0)) p zeroed-good (in-out (flagSpan Sign) p (inl (omega arith)))
+      ∙ one-flag m g p Zero (eqb v 0) h
+
+  computed-new : (p : ℕ) → (inSpan (flagSpan Parity) p || (inSpan (flagSpan Zero) p || inSpan (flagSpan Sign) p)) ≡ true
+      → place (computeFlags m v z) p ≡ boolBit (getD (evenOnes v ∷ eqb v 0 ∷ signIn z v ∷ []) (p - 177) false)
+  computed-new p h = go (tested (inSpan (flagSpan Parity) p)) (tested (inSpan (flagSpan Zero) p))
+    where
+      found : (k : ℕ) (b : Bool) → p - 177 ≡ k → getD (evenOnes v ∷ eqb v 0 ∷ signIn z v ∷ []) k false ≡ b
+          → place (computeFlags m v z) p ≡ boolBit b
+          → place (computeFlags m v z) p ≡ boolBit (getD (evenOnes v ∷ eqb v 0 ∷ signIn z v ∷ []) (p - 177) false)
+      found k b e f q = q ∙ ap boolBit (sym f) ∙ ap (λ (j : ℕ). boolBit (getD (evenOnes v ∷ eqb v 0 ∷ signIn z v ∷ []) j false)) (sym e)
+
+      go : (inSpan (flagSpan Parity) p ≡ true) ⊎ (inSpan (flagSpan Parity) p ≡ false)
+          → (inSpan (flagSpan Zero) p ≡ true) ⊎ (inSpan (flagSpan Zero) p ≡ false)
+          → place (computeFlags m v z) p ≡ boolBit (getD (evenOnes v ∷ eqb v 0 ∷ signIn z v ∷ []) (p - 177) false)
+      go (inl a) b =
+          let lo : 177 ≤ p = in-low (flagSpan Parity) p a in
+          let hi : p < 178 = in-high (flagSpan Parity) p a in
+          found 0 (evenOnes v) (omega arith) refl (parity-new p a)
+      go (inr a) (inl b) =
+          let lo : 178 ≤ p = in-low (flagSpan Zero) p b in
+          let hi : p < 179 = in-high (flagSpan Zero) p b in
+          found 1 (eqb v 0) (omega arith) refl (zero-new p b)
+      go (inr a) (inr b) =
+          let c : inSpan (flagSpan Sign) p ≡ true = rw (a, b) at h in
+          let lo : 179 ≤ p = in-low (flagSpan Sign) p c in
+          let hi : p < 180 = in-high (flagSpan Sign) p c in
+          found 2 (signIn z v) (omega arith) refl (sign-new p c)
+
+no-row : {X : Type 0} (p : ℕ) (x y : X) → inSpans noSpans p ≡ true → x ≡ y
+no-row p x y h = let z : inSpans noSpans p ≡ false = nothing-in p in let w : x ≡ y = cc in w
+
+word-lt : (x : ℕ) → x % 2 ^ 64 < 2 ^ 64
+word-lt x = mod-lt x (pow-pos 64)
+
+place-new : (c : Call) (m : MachineState) (s : Store) (l : List ℕ) (p : ℕ) → Sound m → accepted (step c m s l .outcome) ≡ true
+    → inSpans (rewritesOf c) p ≡ true
+    → place (step c m s l .machine) p ≡ placeValue c m l p
+unfolding step readOperand writeOperand pushed popped loaded readMemory writeMemory rewritesOf placeValue row
+place-new (ReadOperand a z) m s l p g o h = no-row p _ _ h
+place-new (WriteOperand (arg.Register r) z v) m s l p g o h = write-new r v m p g (sym (one-only (rewriteSpan r) p) ∙ h)
+place-new (WriteOperand (arg.Immediate x) z v) m s l p g o h = no-row p _ _ h
+place-new (WriteOperand (arg.EffectiveAddress b i k d) z v) m s l p g o h = no-row p _ _ h
+place-new (EffectiveAddress a) m s l p g o h = no-row p _ _ h
+place-new Push m s l p g o h = rw o (rsp-new m g p (below (rsp m) (length l)) (word-lt _) (sym (one-only (rewriteSpan RSP) p) ∙ h))
+place-new Pop m s l p g o h = rw o (rsp-new m g p ((rsp m + 8) % 2 ^ 64) (word-lt _) (sym (one-only (rewriteSpan RSP) p) ∙ h))
+place-new (ReadMemory a) m s l p g o h = no-row p _ _ h
+place-new (WriteMemory a) m s l p g o h = no-row p _ _ h
+place-new (TestFlag f) m s l p g o h = no-row p _ _ h
+place-new (SetFlag f b) m s l p g o h = one-flag m g p f b (sym (one-only (flagSpan f) p) ∙ h)
+place-new (ComputeFlags v z) m s l p g o h =
+    computed-new m g v z p (sym (three-only (flagSpan Parity) (flagSpan Zero) (flagSpan Sign) p) ∙ h)
+
+one-place : (p : ℕ) (a : Act) (x : State) → Sound (x .machine)
+    → place (does a x .after .machine) p ≡ holding (placeGiven p a x) (place (x .machine) p)
+unfolding does rewrites
+one-place p a x g = go (tested (inSpans (rewritesOf (a .call)) p)) (tested (accepted (r .outcome)))
   where
-    r : Register
-    r = w .register
+    r : After
+    r = step (a .call) (x .machine) (x .store) (a .lent)
 
-    go : Dec (i ≡ parentOf r) → Dec (firstOf (partOf r) ≤ j) → Dec (j < firstOf (partOf r) + rewritesOf (partOf r)) → lane j (parentAt (writeReg m r (w .value)) i) ≡ cond (eqb i (parentOf r) && (leb (firstOf (partOf r)) j && ltb j (firstOf (partOf r) + rewritesOf (partOf r)))) (leaves w j) (lane j (parentAt m i))
-    go (no n) l u = rw (ne-eqb i (parentOf r) n) (write-out m r (w .value) h i j (λ e. absurd (n e)))
-    go (yes e) (no l) u = rw (eq-eqb i (parentOf r) e, lt-leb (firstOf (partOf r)) j (omega (arith, l))) (write-out m r (w .value) h i j (λ q f. absurd (l f)))
-    go (yes e) (yes l) (no u) =
-        rw (eq-eqb i (parentOf r) e, le-leb (firstOf (partOf r)) j l, le-ltb j (firstOf (partOf r) + rewritesOf (partOf r)) (omega (arith, u)))
-        (write-out m r (w .value) h i j (λ q f. omega (arith, u)))
-    go (yes e) (yes l) (yes u) =
-        let k : firstOf (partOf r) + (j - firstOf (partOf r)) ≡ j = omega arith in
-        rw (eq-eqb i (parentOf r) e, le-leb (firstOf (partOf r)) j l, lt-ltb j (firstOf (partOf r) + rewritesOf (partOf r)) u)
-        (rw e (ap (λ (x : ℕ). lane x (parentAt (writeReg m r (w .value)) (parentOf r))) (sym k) ∙ write-in m r (w .value) h (j - firstOf (partOf r)) (omega arith)))
+    v : ℕ
+    v = placeValue (a .call) (x .machine) (a .lent) p
 
-pub lanes-last : LanesLast
-unfolding lastLane
-lanes-last m [] h i j = refl
-lanes-last m (w ∷ ws) h i j =
-    lanes-last (writeReg m (w .register) (w .value)) ws (regs-kept m (w .register) (w .value) h) i j ∙ ap (λ (b : ℕ). lastLane b ws i j) (one-write m w h i j)
+    go : (inSpans (rewritesOf (a .call)) p ≡ true) ⊎ (inSpans (rewritesOf (a .call)) p ≡ false)
+        → (accepted (r .outcome) ≡ true) ⊎ (accepted (r .outcome) ≡ false)
+        → place (r .machine) p ≡ holding (ifSo (accepted (r .outcome) && inSpans (rewritesOf (a .call)) p) v) (place (x .machine) p)
+    go (inl t) (inl o) = rw (t, o) (place-new (a .call) (x .machine) (x .store) (a .lent) p g o t)
+    go (inl t) (inr o) =
+        rw o (ap (λ (m : MachineState). place m p)
+        (refused-untouched (a .call) (x .machine) (x .store) (a .lent)
+        (λ e. let b : _≡_ {A = Bool} true false = sym (ap (λ (k : ℕ). eqb k 0) e) ∙ o in let z : _≡_ {A = ℕ} 0 1 = cc in
+        omega arith) .machine))
+    go (inr f) o = rw (f, and-false (accepted (r .outcome))) (owes (a .call) .changes .keeps (x .machine) (x .store) (a .lent) p g f)
 
--- ---- flags
-same-bit : (f g : Flags) → bitOf f ≡ bitOf g → (m : MachineState) (b : Bool) → flagIn (setFlag m g b) f ≡ b
-same-bit f g e m b = ap (λ (k : ℕ). bitSet k (putFlag (m .rflags) g b)) e ∙ flag-back (m .rflags) g b
-
-other-bit : (f g : Flags) → (bitOf f ≡ bitOf g → ⊥) → (m : MachineState) (b : Bool) → flagIn (setFlag m g b) f ≡ flagIn m f
-unfolding bitSet
-other-bit f g n m b = ap (λ (x : ℕ). eqb x 1) (bits-kept (m .rflags) g b (bitOf f) 1 (side (decLt (bitOf f) (bitOf g))))
-  where
-    side : Dec (bitOf f < bitOf g) → (bitOf f + 1 ≤ bitOf g) ⊎ (bitOf g + 1 ≤ bitOf f)
-    side (yes l) = inl (omega arith)
-    side (no l) = inr (omega (arith, n, l))
-
-one-setting : (m : MachineState) (w : Setting) (f : Flags) → flagIn (setFlag m (w .flag) (w .value)) f ≡ cond (eqb (bitOf f) (bitOf (w .flag))) (w .value) (flagIn m f)
-one-setting m w f = go (ℕ-discrete (bitOf f) (bitOf (w .flag)))
-  where
-    go : Dec (bitOf f ≡ bitOf (w .flag)) → flagIn (setFlag m (w .flag) (w .value)) f ≡ cond (eqb (bitOf f) (bitOf (w .flag))) (w .value) (flagIn m f)
-    go (yes e) = rw (eq-eqb (bitOf f) (bitOf (w .flag)) e) (same-bit f (w .flag) e m (w .value))
-    go (no n) = rw (ne-eqb (bitOf f) (bitOf (w .flag)) n) (other-bit f (w .flag) n m (w .value))
-
-pub flags-last : FlagsLast
-unfolding lastFlag
-flags-last m [] f = refl
-flags-last m (w ∷ ws) f = flags-last (setFlag m (w .flag) (w .value)) ws f ∙ ap (λ (b : Bool). lastFlag b ws f) (one-setting m w f)
+pub places-last : PlacesLast
+places-last acts x p g =
+    last-is (placeGiven p) (λ y. place (y .machine) p) (λ y. Sound (y .machine)) stays-sound (λ a y k. one-place p a y k) acts x g

@@ -13,4 +13,4 @@ pub exposed-means : (acts : List Act) (p : ℕ) → ExposedMeans acts p
 exposed-means acts p = record { only = theorem.exposed-says acts p; where-so = theorem.exposed-where acts p }
 
 pub report-exact : ReportExact
-report-exact acts rest few p l = exact.report-exact acts rest few p l
+report-exact acts rest few = record { accepted = exact.report-accepted acts rest few; places = exact.report-exact acts rest few }

@@ -1,18 +1,18 @@
--- The ● examples of 01, all in one claim. The checker computes what it can; what a write leaves in a page of 4,096 bytes goes by the laws of memory.
--- Assumes nothing.
+-- The ● examples of 01, all in one claim. The checker computes what it can; what a write leaves in a page of 4,096 bytes goes by the laws
+-- of memory. Assumes nothing.
 use mathlib.Core.List.{List, [], _∷_}
 use mathlib.Core.Logic.{inl}
-use mathlib.Core.Path.{_≡_, refl, sym, _∙_, ap, ap₂}
-use Prim.Native.Nat.{ℕ, _<_, _≤_}
+use mathlib.Core.Path.{_≡_, refl, _∙_, ap, ap₂}
+use Prim.Native.Nat.{ℕ, _<_}
 use native.Mathlib.Omega.{arith}
 use lib.Count.{ones, onesIn}
-use lib.ListN.{length, getD, replicate}
+use lib.ListN.{getD, replicate}
 use Rattle.utils.specs.Bytes.{fromBytes}
-use Rattle.utils.specs.Outcome.{Outcome, gives}
+use Rattle.utils.specs.Outcome.{Outcome, gives, accepted}
 use Rattle.utils.specs.Word.{cut, put, extend}
 use Rattle.instruction_set.specs.Registers.{row}
 use Rattle.instruction_set.specs.declared.ArgumentSize.the-variants.{Bit8, Bit16, Bit64}
-use Rattle.instruction_set.specs.declared.Register.the-variants.{RAX, RBX, RSP, EAX, AX, SPL}
+use Rattle.instruction_set.specs.declared.Register.the-variants.{RAX, RSP, EAX, AX, SPL}
 use Rattle.fields.specs.FlagBits.{bitSet, putFlag, evenOnes}
 use Rattle.fields.specs.Parts.{readOf, writeOf}
 use Rattle.mmu.specs.Calls.{readOutcome, readOut, writeOutcome}
@@ -20,25 +20,24 @@ use Rattle.store.specs.Store.{sound, seek, foundIn, byteAt, readAt, pagesFrom, 
 use Rattle.runs.specs.Runs.{tabulate}
 use Rattle.mmu.specs.Walk.{entryPlace, wordAt, nextTable, walked, physical}
 use Rattle.machine_state.specs.Address.{addressOf}
-use Rattle.machine_state.specs.Answers.{Value, word, After}
-use Rattle.machine_state.specs.Flagged.{computeFlags}
+use Rattle.machine_state.specs.Answers.{Value, word}
 use Rattle.machine_state.specs.Machine.{newMachine, readReg, writeReg}
-use Rattle.machine_state.specs.Memory.{valued, withValue, loaded, pushed, readMemory, writeMemory}
+use Rattle.machine_state.specs.Memory.{loaded, pushed, readMemory, writeMemory}
 use Rattle.rows.specs.Exposed.{exposed}
 use Rattle.rows.specs.Places.{reads, rewrites}
 use Rattle.rows.specs.Rows.{readsOf, rewritesOf, inSpan, inSpans}
-use Rattle.promises.specs.Table.{minus, rax, operand, valuesOf, flags, eighty, twoSlots, oneSlot, pageZero, tables, eight, afterPush, afterTop, placesOf, exposedOf, writing, reading, pushing, table, left, right}
+use Rattle.promises.specs.Table.{minus, said, flags, eighty, twoSlots, oneSlot, pageZero, tables, eight, afterPush, afterTop, placesOf, exposedOf, writing, reading, pushing, table, left, right}
 use Rattle.promises.proofs.Demand2.{reads-accepted, reads-back, others-stay, sound-after}
 
 cons : {a b : List ℕ} {xs ys : List (List ℕ)} → a ≡ b → xs ≡ ys → a ∷ xs ≡ b ∷ ys
 cons e f = ap₂ _∷_ e f
 
 -- ---- memory
-eighty-byte : valuesOf (loaded newMachine eighty 0 Bit8 .outcome .values) ≡ 128 ∷ []
+eighty-byte : said (loaded newMachine eighty 0 Bit8 .outcome) ≡ 0 ∷ 128 ∷ []
 unfolding loaded readMemory readOut readOutcome sound eighty physical readAt tabulate byteAt foundIn seek fromBytes
 eighty-byte = refl
 
-eighty-word : valuesOf (loaded newMachine eighty 0 Bit16 .outcome .values) ≡ minus 32640 ∷ []
+eighty-word : said (loaded newMachine eighty 0 Bit16 .outcome) ≡ 0 ∷ minus 32640 ∷ []
 unfolding loaded readMemory readOut readOutcome sound eighty physical readAt tabulate byteAt foundIn seek fromBytes extend
 eighty-word = refl
 
@@ -46,7 +45,8 @@ walk : physical tables 0x1000 0x40200005 ∷ [] ≡ 0x600005 ∷ []
 unfolding tables physical walked nextTable entryPlace cut wordAt fromBytes readAt tabulate byteAt foundIn seek
 walk = refl
 
-room : writeMemory newMachine oneSlot 4095 (1 ∷ 2 ∷ []) .outcome .number ∷ writeMemory newMachine pageZero 4095 (1 ∷ 2 ∷ []) .outcome .number ∷ [] ≡ 6 ∷ 0 ∷ []
+room : writeMemory newMachine oneSlot 4095 (1 ∷ 2 ∷ []) .outcome .number ∷ writeMemory newMachine pageZero 4095 (1 ∷ 2 ∷ [])
+    .outcome .number ∷ [] ≡ 6 ∷ 0 ∷ []
 unfolding writeMemory writeOutcome oneSlot pageZero sound physical touched pagesFrom absentOf foundIn seek
 room = refl
 
@@ -57,7 +57,7 @@ top-fits = refl
 top : afterTop .outcome .number ∷ byteAt (afterTop .store) 0 ∷ [] ≡ 0 ∷ 0 ∷ []
 top =
     ap₂ (λ (x y : ℕ). x ∷ y ∷ []) (ap (λ (o : Outcome Value). o .number) top-fits)
-    (others-stay newMachine twoSlots (minus 1) (1 ∷ 2 ∷ []) top-fits 0 (inl below) ∙ zero-there)
+    (others-stay newMachine twoSlots (minus 1) (1 ∷ 2 ∷ []) (ap accepted top-fits) 0 (inl below) ∙ zero-there)
   where
     below : 0 < physical twoSlots 0 (minus 1)
     below = unfold physical in omega arith
@@ -78,17 +78,20 @@ push-store : afterPush .store ≡ writeMemory newMachine twoSlots (minus 8) eigh
 unfolding pushed
 push-store = refl
 
-pushed-bytes : loaded newMachine (afterPush .store) (minus 8) Bit64 .outcome .values ≡ word 0x0807060504030201 ∷ []
+pushed-bytes : loaded newMachine (afterPush .store) (minus 8) Bit64 .outcome ≡ gives (word 0x0807060504030201 ∷ [])
 unfolding loaded
 pushed-bytes =
     let t = writeMemory newMachine twoSlots (minus 8) eight .store in
     let z = replicate {A = ℕ} 8 0 in
-    let b : readMemory newMachine t (minus 8) z .lent ≡ eight = reads-back newMachine twoSlots (minus 8) eight z push-fits refl (unfold physical in refl) in
-    let o : readMemory newMachine t (minus 8) z .outcome ≡ gives [] = reads-accepted newMachine t (minus 8) z (sound-after newMachine twoSlots (minus 8) eight push-fits) (omega arith) in
+    let b : readMemory newMachine t (minus 8) z .lent ≡ eight =
+    reads-back newMachine twoSlots (minus 8) eight z (ap accepted push-fits) refl (unfold physical in refl) in
+    let o : readMemory newMachine t (minus 8) z .outcome ≡ gives [] =
+    reads-accepted newMachine t (minus 8) z (sound-after newMachine twoSlots (minus 8) eight (ap accepted push-fits)) (omega arith) in
     rw (push-store, o, b) (unfold fromBytes in refl)
 
-push : readReg (afterPush .machine) RSP ∷ valuesOf (loaded newMachine (afterPush .store) (minus 8) Bit64 .outcome .values) ≡ minus 8 ∷ 0x0807060504030201 ∷ []
-push = ap₂ {A = ℕ} {B = List Value} (λ x vs. x ∷ valuesOf vs) push-rsp pushed-bytes
+push : readReg (afterPush .machine) RSP ∷ said (loaded newMachine (afterPush .store) (minus 8) Bit64 .outcome)
+    ≡ minus 8 ∷ 0 ∷ 0x0807060504030201 ∷ []
+push = ap₂ {A = ℕ} {B = Outcome Value} (λ x o. x ∷ said o) push-rsp pushed-bytes
 
 -- ---- registers, flags and addresses
 abbrev values : ℕ → List (List ℕ) → List ℕ
@@ -123,7 +126,8 @@ eax-rax : exposedOf (writing EAX ∷ reading RAX ∷ []) ≡ []
 unfolding exposedOf placesOf exposed reads rewrites readsOf rewritesOf inSpan inSpans row
 eax-rax = refl
 
-push-spl : exposedOf (pushing ∷ reading SPL ∷ []) ≡ 32 ∷ 33 ∷ 34 ∷ 35 ∷ 36 ∷ 37 ∷ 38 ∷ 39 ∷ 152 ∷ 153 ∷ 154 ∷ 155 ∷ 156 ∷ 157 ∷ 158 ∷ 159 ∷ []
+push-spl : exposedOf (pushing ∷ reading SPL ∷ [])
+    ≡ 32 ∷ 33 ∷ 34 ∷ 35 ∷ 36 ∷ 37 ∷ 38 ∷ 39 ∷ 152 ∷ 153 ∷ 154 ∷ 155 ∷ 156 ∷ 157 ∷ 158 ∷ 159 ∷ []
 unfolding exposedOf placesOf exposed reads rewrites readsOf rewritesOf inSpan inSpans row
 push-spl = refl
 

@@ -1,110 +1,164 @@
--- Demand 2's definitions shut out a machine that refuses always, one that reads 0 always, one whose writes change nothing, and one that honours only
--- the first write of a list (01, "What each call owes"): what each of them would have to break, as statements about the calls.
+-- Demand 2's definitions shut out a machine that refuses always, one that reads 0 always, one whose writes change nothing, and one that
+-- honours only the first write of a list (01, "What each call owes"): what each of them would have to break, as statements about the
+-- calls. That a call is accepted wherever none of 01's conditions holds is `AcceptedExactly`, Refusals.antt.
 use mathlib.Core.Bool.{Bool, true, false, cond, _&&_}
 use mathlib.Core.List.{List, [], _∷_}
 use mathlib.Core.Logic.{_⊎_}
 use mathlib.Core.Path.{_≡_}
 use Prim.Native.Nat.{ℕ, _+_, _-_, _*_, _%_, _^_, _<_, _≤_}
 use lib.Dec.{eqb, ltb, leb}
-use lib.ListN.{length}
-use Rattle.utils.specs.Outcome.{Outcome, gives}
+use lib.ListN.{length, getD}
+use Rattle.utils.specs.Bytes.{fromBytes}
+use Rattle.utils.specs.Outcome.{gives, accepted}
 use Rattle.utils.specs.Word.{lane, extend}
-use Rattle.instruction_set.specs.Registers.{parentOf, partOf, firstOf, readsOf, rewritesOf}
-use Rattle.instruction_set.specs.Sizes.{bitOf}
+use Rattle.instruction_set.specs.Registers.{parentOf, partOf, firstOf, readsOf}
+use Rattle.instruction_set.specs.declared.InstructionArgument.{InstructionArgument}
+use Rattle.instruction_set.specs.declared.InstructionArgument.the-variants as arg
+use Rattle.instruction_set.specs.Sizes.{bytesOf}
+use Rattle.instruction_set.specs.declared.ArgumentSize.{ArgumentSize}
+use Rattle.fields.specs.Parts.{memoryValue}
 use Rattle.instruction_set.specs.declared.Flags.{Flags}
 use Rattle.instruction_set.specs.declared.Register.{Register}
-use Rattle.mmu.specs.History.{Change, lastByte}
-use Rattle.store.specs.Store.{Store, sound, live, unused, touched, absentOf, byteAt}
-use Rattle.mmu.specs.Walk.{physical}
+use Rattle.fields.specs.FlagBits.{boolBit, evenOnes, signIn}
+use Rattle.store.specs.Store.{Store, live, touched, absentOf, byteAt}
+use Rattle.mmu.specs.Walk.{physical, entriesRead}
+use Rattle.machine_state.specs.Answers.{word}
 use Rattle.machine_state.specs.Flagged.{flagIn, setFlag}
-use Rattle.machine_state.specs.Machine.{parentAt, readReg, writeReg}
-use Rattle.machine_state.specs.Memory.{cr3, readMemory, writeMemory}
+use Rattle.machine_state.specs.Machine.{readReg, writeReg}
+use Rattle.machine_state.specs.Memory.{rsp, cr3, after, below, readMemory, writeMemory, loaded, storedAt, pushed, popped}
+use Rattle.machine_state.specs.declared.Event.the-variants.{Quiet}
 use Rattle.machine_state.specs.declared.MachineState.{MachineState}
+use Rattle.calls.specs.declared.Call.{Call}
+use Rattle.calls.specs.declared.Call.the-variants.{ReadOperand, WriteOperand, EffectiveAddress, Push, Pop, ReadMemory, WriteMemory, TestFlag, SetFlag, ComputeFlags}
+use Rattle.rows.specs.Exposed.{end}
+use Rattle.rows.specs.Places.{Act, State, Sound, place, does, rewrites}
+use Rattle.promises.specs.Refusals.{Access, none, reading, writing, accessOf}
 
--- ---- memory
--- no machine that refuses always: what 01's conditions do not hold of is accepted
-abbrev pub ReadsAccepted : Type 0
-ReadsAccepted = (m : MachineState) (s : Store) (a : ℕ) (out : List ℕ) → sound s ≡ true → length out ≤ 4096 → readMemory m s a out .outcome ≡ gives []
-
-abbrev pub WritesAccepted : Type 0
-WritesAccepted =
-    (m : MachineState) (s : Store) (a : ℕ) (d : List ℕ) → sound s ≡ true → length d ≤ 4096 → absentOf (live s) (touched (physical s (cr3 m) a) (length d)) ≤ unused s → writeMemory m s a d .outcome ≡ gives []
-
--- no machine that reads 0 always, and none whose writes change nothing: an accepted write reads back where it leaves the walk as it was
+-- ---- one write: no machine that reads 0 always, and none whose writes change nothing
+-- an accepted write reads back where it leaves the walk as it was
 abbrev pub ReadsBack : Type 0
 ReadsBack =
-    (m : MachineState) (s : Store) (a : ℕ) (d out : List ℕ) → writeMemory m s a d .outcome ≡ gives [] → length out ≡ length d → physical (writeMemory m s a d .store) (cr3 m) a ≡ physical s (cr3 m) a → readMemory m (writeMemory m s a d .store) a out .lent ≡ d
+    (m : MachineState) (s : Store) (a : ℕ) (d out : List ℕ) → accepted (writeMemory m s a d .outcome) ≡ true → length out ≡ length d
+    → physical (writeMemory m s a d .store) (cr3 m) a ≡ physical s (cr3 m) a → readMemory m (writeMemory m s a d .store) a out .lent ≡ d
 
--- and every other byte of memory stays
+-- when a walk stays: with cr3 = 0 always, and otherwise where the write goes over none of the three entries that the walk reads
+abbrev pub Apart : MachineState → Store → ℕ → List ℕ → ℕ → Type 0
+Apart m s p d b =
+    (j : ℕ) → j < 3 → (getD (entriesRead s 3 (cr3 m) b) j 0 + 8 ≤ p) ⊎ (p + length d ≤ getD (entriesRead s 3 (cr3 m) b) j 0)
+
+abbrev pub WalkStays : Type 0
+WalkStays =
+    (m : MachineState) (s : Store) (a : ℕ) (d : List ℕ) (b : ℕ) → accepted (writeMemory m s a d .outcome) ≡ true
+    → (cr3 m ≡ 0) ⊎ Apart m s (physical s (cr3 m) a) d b → physical (writeMemory m s a d .store) (cr3 m) b ≡ physical s (cr3 m) b
+
+-- every other byte of memory stays
 abbrev pub OthersStay : Type 0
 OthersStay =
-    (m : MachineState) (s : Store) (a : ℕ) (d : List ℕ) → writeMemory m s a d .outcome ≡ gives [] → (q : ℕ) → (q < physical s (cr3 m) a) ⊎ (physical s (cr3 m) a + length d ≤ q) → byteAt (writeMemory m s a d .store) q ≡ byteAt s q
+    (m : MachineState) (s : Store) (a : ℕ) (d : List ℕ) → accepted (writeMemory m s a d .outcome) ≡ true
+    → (q : ℕ) → (q < physical s (cr3 m) a) ⊎ (physical s (cr3 m) a + length d ≤ q) → byteAt (writeMemory m s a d .store) q ≡ byteAt s q
 
--- none that honours only the first write of a list: after any list of accepted writes each byte is as its last writer left it. Each address is
--- walked in its turn, over what the writes before it left; push, pop and memory operands are made of these calls
-pub record Storing : Type 0 where
-  pub address : ℕ
-  pub bytes : List ℕ
+-- a push of 8 bytes and then a pop: the bytes come back as a value, and the machine is as it was
+abbrev pub PopsBack : Type 0
+PopsBack =
+    (m : MachineState) (s : Store) (d : List ℕ) → Sound m → length d ≡ 8 → accepted (pushed m s d .outcome) ≡ true
+    → physical (pushed m s d .store) (cr3 m) (below (rsp m) 8) ≡ physical s (cr3 m) (below (rsp m) 8)
+    → popped (pushed m s d .machine) (pushed m s d .store) ≡ after m (pushed m s d .store) [] Quiet (gives (word (fromBytes d) ∷ []))
 
-abbrev pub stored : MachineState → Store → List Storing → Store
-stored m s [] = s
-stored m s (w ∷ ws) = stored m (writeMemory m s (w .address) (w .bytes) .store) ws
+-- what is written to a register reads back, sign-extended from the register's size
+abbrev pub RegistersBack : Type 0
+RegistersBack =
+    (m : MachineState) (r : Register) (v : ℕ) → length (m .regs) ≡ 22 → readReg (writeReg m r v) r ≡ extend (8 * readsOf (partOf r)) v
 
-abbrev pub AllStored : MachineState → Store → List Storing → Type 0
-AllStored m s [] = Unit {0}
-AllStored m s (w ∷ ws) = (writeMemory m s (w .address) (w .bytes) .outcome ≡ gives []) × AllStored m (writeMemory m s (w .address) (w .bytes) .store) ws
+-- a value written at an address reads back at the same size, extended as 01 says
+abbrev pub OperandsBack : Type 0
+OperandsBack =
+    (m : MachineState) (s : Store) (a : ℕ) (z : ArgumentSize) (v : ℕ) → accepted (storedAt m s a z v .outcome) ≡ true
+    → physical (storedAt m s a z v .store) (cr3 m) a ≡ physical s (cr3 m) a
+    → loaded m (storedAt m s a z v .store) a z .outcome ≡ gives (word (memoryValue z (v % 2 ^ (8 * bytesOf z))) ∷ [])
 
--- where each of them goes
-abbrev pub places : MachineState → Store → List Storing → List Change
-places m s [] = []
-places m s (w ∷ ws) =
-    record { place = physical s (cr3 m) (w .address); bytes = w .bytes } ∷ places m (writeMemory m s (w .address) (w .bytes) .store) ws
+-- a flag that is set tests as it was set
+abbrev pub FlagsBack : Type 0
+FlagsBack = (m : MachineState) (f : Flags) (b : Bool) → flagIn (setFlag m f b) f ≡ b
+
+-- ---- lists: no machine that honours only the first write of a list
+-- what a call gives to one byte of memory, or to one place of the machine: nothing, or a value
+pub data Given : Type 0 where
+  nothing : Given
+  value : ℕ → Given
+
+abbrev pub ifSo : Bool → ℕ → Given
+ifSo true v = value v
+ifSo false v = nothing
+
+-- what held b holds what it is given
+abbrev pub holding : Given → ℕ → ℕ
+holding nothing b = b
+holding (value v) b = v
+
+-- what held b, after the calls of a list: each finds the machine and the store as those before it left them, and the last that gives a
+-- value counts
+unfoldable pub last : (Act → State → Given) → List Act → State → ℕ → ℕ
+last given [] x b = b
+last given (a ∷ acts) x b = last given acts (does a x .after) (holding (given a x) b)
+
+abbrev pub isAccepted : Act → State → Bool
+isAccepted a x = accepted (does a x .answer .outcome)
+
+-- memory: an accepted write gives its bytes to those from the physical place of its first one on
+abbrev pub byteFrom : ℕ → ℕ → List ℕ → Given
+byteFrom q p d = ifSo (leb p q && ltb q (p + length d)) (getD d (q - p) 0)
+
+abbrev pub byteWritten : MachineState → Store → Access → ℕ → Given
+byteWritten m s none q = nothing
+byteWritten m s (reading x n) q = nothing
+byteWritten m s (writing x d) q = byteFrom q (physical s (cr3 m) x) d
+
+abbrev pub byteGiven : ℕ → Act → State → Given
+byteGiven q a x = cond (isAccepted a x) (byteWritten (x .machine) (x .store) (accessOf (a .call) (x .machine) (a .lent)) q) nothing
 
 abbrev pub BytesLast : Type 0
-BytesLast = (m : MachineState) (s : Store) (ws : List Storing) (q : ℕ) → AllStored m s ws → byteAt (stored m s ws) q ≡ lastByte (byteAt s q) (places m s ws) q
+BytesLast = (acts : List Act) (x : State) (q : ℕ) → byteAt (end does acts x .store) q ≡ last (byteGiven q) acts x (byteAt (x .store) q)
 
--- ---- registers: what is written reads back, sign-extended from the register's size, so none reads 0 always
-abbrev pub RegistersBack : Type 0
-RegistersBack = (m : MachineState) (r : Register) (v : ℕ) → length (m .regs) ≡ 22 → readReg (writeReg m r v) r ≡ extend (8 * readsOf (partOf r)) v
+-- lanes and flags: an accepted call gives to each place of its rewrite row what its rule says; other places keep what they had.
+-- A register gets the low lanes of the value, as many as it has, with zeros above them
+abbrev pub laneOf : InstructionArgument → ℕ → ℕ → ℕ
+laneOf (arg.Register r) v p = lane (p - (8 * parentOf r + firstOf (partOf r))) (v % 2 ^ (8 * readsOf (partOf r)))
+laneOf (arg.Immediate x) v p = 0
+laneOf (arg.EffectiveAddress b i s d) v p = 0
 
--- after any list of writes each lane of each parent is as its last writer left it
-pub record Write : Type 0 where
-  pub register : Register
-  pub value : ℕ
+-- rsp stands at places 32 to 39; Parity, Zero and Sign at 177, 178 and 179
+unfoldable pub placeValue : Call → MachineState → List ℕ → ℕ → ℕ
+placeValue (ReadOperand a z) m l p = 0
+placeValue (WriteOperand a z v) m l p = laneOf a v p
+placeValue (EffectiveAddress a) m l p = 0
+placeValue Push m l p = lane (p - 32) (below (rsp m) (length l))
+placeValue Pop m l p = lane (p - 32) ((rsp m + 8) % 2 ^ 64)
+placeValue (ReadMemory a) m l p = 0
+placeValue (WriteMemory a) m l p = 0
+placeValue (TestFlag f) m l p = 0
+placeValue (SetFlag f b) m l p = boolBit b
+placeValue (ComputeFlags v z) m l p = boolBit (getD (evenOnes v ∷ eqb v 0 ∷ signIn z v ∷ []) (p - 177) false)
 
-abbrev pub written : MachineState → List Write → MachineState
-written m [] = m
-written m (w ∷ ws) = written (writeReg m (w .register) (w .value)) ws
+abbrev pub placeGiven : ℕ → Act → State → Given
+placeGiven p a x = ifSo (isAccepted a x && rewrites a p) (placeValue (a .call) (x .machine) (a .lent) p)
 
--- whether a write's row has lane j of parent i
-unfoldable pub rewrites : Register → ℕ → ℕ → Bool
-rewrites r i j = eqb i (parentOf r) && (leb (firstOf (partOf r)) j && ltb j (firstOf (partOf r) + rewritesOf (partOf r)))
+abbrev pub PlacesLast : Type 0
+PlacesLast =
+    (acts : List Act) (x : State) (p : ℕ) → Sound (x .machine)
+    → place (end does acts x .machine) p ≡ last (placeGiven p) acts x (place (x .machine) p)
 
--- the byte that it leaves there: the value's, of as many lanes as the register has, and 0 above those
-abbrev pub leaves : Write → ℕ → ℕ
-leaves w j = lane (j - firstOf (partOf (w .register))) (w .value % 2 ^ (8 * readsOf (partOf (w .register))))
+-- the count: "A write takes a slot for each absent page it touches", where it is accepted
+abbrev pub slotsFor : MachineState → Store → Access → ℕ
+slotsFor m s none = 0
+slotsFor m s (reading x n) = 0
+slotsFor m s (writing x d) = absentOf (live s) (touched (physical s (cr3 m) x) (length d))
 
--- what a lane that held b holds after the writes
-unfoldable pub lastLane : ℕ → List Write → ℕ → ℕ → ℕ
-lastLane b [] i j = b
-lastLane b (w ∷ ws) i j = lastLane (cond (rewrites (w .register) i j) (leaves w j) b) ws i j
+abbrev pub slotsTaken : Act → State → ℕ
+slotsTaken a x = cond (isAccepted a x) (slotsFor (x .machine) (x .store) (accessOf (a .call) (x .machine) (a .lent))) 0
 
-abbrev pub LanesLast : Type 0
-LanesLast =
-    (m : MachineState) (ws : List Write) → length (m .regs) ≡ 22 → (i j : ℕ) → lane j (parentAt (written m ws) i) ≡ lastLane (lane j (parentAt m i)) ws i j
+unfoldable pub allTaken : List Act → State → ℕ
+allTaken [] x = 0
+allTaken (a ∷ acts) x = slotsTaken a x + allTaken acts (does a x .after)
 
--- ---- flags: after any list of settings each flag is as the last one of it left it
-pub record Setting : Type 0 where
-  pub flag : Flags
-  pub value : Bool
-
-abbrev pub settings : MachineState → List Setting → MachineState
-settings m [] = m
-settings m (w ∷ ws) = settings (setFlag m (w .flag) (w .value)) ws
-
-unfoldable pub lastFlag : Bool → List Setting → Flags → Bool
-lastFlag b [] f = b
-lastFlag b (w ∷ ws) f = lastFlag (cond (eqb (bitOf f) (bitOf (w .flag))) (w .value) b) ws f
-
-abbrev pub FlagsLast : Type 0
-FlagsLast = (m : MachineState) (ws : List Setting) (f : Flags) → flagIn (settings m ws) f ≡ lastFlag (flagIn m f) ws f
+abbrev pub CountRule : Type 0
+CountRule = (acts : List Act) (x : State) → end does acts x .store .used ≡ x .store .used + allTaken acts x

@@ -3,7 +3,8 @@ use mathlib.Core.List.{List, [], _∷_}
 use mathlib.Core.Bool.{Bool, true, false}
 use Prim.Native.Nat.{ℕ, zero, suc, _-_, _^_}
 use lib.IntN.{negsuc}
-use lib.ListN.{replicate, set, getD}
+use lib.ListN.{replicate, set}
+use Rattle.utils.specs.Outcome.{Outcome}
 use Rattle.instruction_set.specs.declared.ArgumentSize.the-variants.{Bit8, Bit16, Bit64}
 use Rattle.instruction_set.specs.declared.Flags.the-variants.{Parity, Zero, Sign}
 use Rattle.instruction_set.specs.declared.InstructionArgument.{InstructionArgument}
@@ -19,7 +20,7 @@ use Rattle.machine_state.specs.Address.{addressOf}
 use Rattle.machine_state.specs.Answers.{Value, word, truth, After}
 use Rattle.machine_state.specs.Flagged.{flagIn, setFlag, computeFlags}
 use Rattle.machine_state.specs.Machine.{newMachine, readReg, writeReg}
-use Rattle.machine_state.specs.Memory.{loaded, pushed, writeMemory}
+use Rattle.machine_state.specs.Memory.{passed, loaded, pushed, writeMemory}
 use Rattle.machine_state.specs.declared.MachineState.{MachineState}
 use Rattle.calls.specs.declared.Call.the-variants.{ReadOperand, WriteOperand, Push}
 use Rattle.rows.specs.Exposed.{exposed}
@@ -50,6 +51,10 @@ abbrev pub valuesOf : List Value → List ℕ
 valuesOf [] = []
 valuesOf (word v ∷ vs) = v ∷ valuesOf vs
 valuesOf (truth b ∷ vs) = boolBit b ∷ valuesOf vs
+
+-- an outcome: its number, then its values
+abbrev pub said : Outcome Value → List ℕ
+said o = o .number ∷ valuesOf (o .values)
 
 -- [base + index * 8 - 8], with base rax and index rbx
 abbrev pub operand : InstructionArgument
@@ -109,17 +114,23 @@ table =
     line (registers (writeReg (rax 0) AL 0x80) (RAX ∷ AL ∷ AH ∷ [])) (128 ∷ minus 128 ∷ 0 ∷ [])
     ∷ line (registers (writeReg (rax (minus 1)) EAX (minus 1)) (RAX ∷ EAX ∷ [])) (4294967295 ∷ minus 1 ∷ [])
     ∷ line (registers (rax 0x8000) (AH ∷ AL ∷ AX ∷ EAX ∷ [])) (minus 128 ∷ 0 ∷ minus 32768 ∷ 32768 ∷ [])
-    ∷ line (valuesOf (loaded newMachine eighty 0 Bit8 .outcome .values)) (128 ∷ [])
-    ∷ line (valuesOf (loaded newMachine eighty 0 Bit16 .outcome .values)) (minus 32640 ∷ [])
+    ∷ line (said (loaded newMachine eighty 0 Bit8 .outcome)) (0 ∷ 128 ∷ [])
+    ∷ line (said (loaded newMachine eighty 0 Bit16 .outcome)) (0 ∷ minus 32640 ∷ [])
     ∷ line (flags (computeFlags (setFlag (setFlag newMachine Zero true) Sign true) 256 Bit8)) (0 ∷ 0 ∷ 1 ∷ [])
-    ∷ line (addressOf (writeReg (rax 16) RBX (minus 1)) operand .values) (0 ∷ [])
-    ∷ line (readReg (afterPush .machine) RSP ∷ valuesOf (loaded newMachine (afterPush .store) (minus 8) Bit64 .outcome .values)) (minus 8 ∷ 0x0807060504030201 ∷ [])
+    ∷ line (said (passed (addressOf (writeReg (rax 16) RBX (minus 1)) operand))) (0 ∷ 0 ∷ [])
+    ∷ line (readReg (afterPush .machine) RSP ∷ said (loaded newMachine (afterPush .store) (minus 8) Bit64 .outcome))
+    (minus 8 ∷ 0 ∷ 0x0807060504030201 ∷ [])
     ∷ line (afterTop .outcome .number ∷ byteAt (afterTop .store) 0 ∷ []) (0 ∷ 0 ∷ [])
     ∷ line (physical tables 0x1000 0x40200005 ∷ []) (0x600005 ∷ [])
-    ∷ line (writeMemory newMachine oneSlot 4095 (1 ∷ 2 ∷ []) .outcome .number ∷ writeMemory newMachine pageZero 4095 (1 ∷ 2 ∷ []) .outcome .number ∷ []) (6 ∷ 0 ∷ [])
+    ∷ line
+    (writeMemory newMachine oneSlot 4095 (1 ∷ 2 ∷ []) .outcome .number
+    ∷ writeMemory newMachine pageZero 4095 (1 ∷ 2 ∷ []) .outcome .number
+    ∷ [])
+    (6 ∷ 0 ∷ [])
     ∷ line (exposedOf (writing AX ∷ reading EAX ∷ [])) (2 ∷ 3 ∷ [])
     ∷ line (exposedOf (writing EAX ∷ reading RAX ∷ [])) []
-    ∷ line (exposedOf (pushing ∷ reading SPL ∷ [])) (32 ∷ 33 ∷ 34 ∷ 35 ∷ 36 ∷ 37 ∷ 38 ∷ 39 ∷ 152 ∷ 153 ∷ 154 ∷ 155 ∷ 156 ∷ 157 ∷ 158 ∷ 159 ∷ [])
+    ∷ line (exposedOf (pushing ∷ reading SPL ∷ []))
+    (32 ∷ 33 ∷ 34 ∷ 35 ∷ 36 ∷ 37 ∷ 38 ∷ 39 ∷ 152 ∷ 153 ∷ 154 ∷ 155 ∷ 156 ∷ 157 ∷ 158 ∷ 159 ∷ [])
     ∷ []
 
 abbrev pub left : List Line → List (List ℕ)

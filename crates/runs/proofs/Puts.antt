@@ -1,5 +1,5 @@
--- Runs of bytes and words: what a test of room says, when `Put` holds, and the bytes of words end to end. By cases and by the laws of `filled`.
--- Assumes nothing.
+-- Runs of bytes and words: what a test of room says, when `Put` holds, and the bytes of words end to end. By cases and by the laws of
+-- `filled`. Assumes nothing.
 use mathlib.Core.Bool.{Bool, true, false, not, _&&_}
 use mathlib.Core.List.{List}
 use mathlib.Core.Path.{_≡_, refl, sym, ap, _∙_}
@@ -53,7 +53,8 @@ pub put-was : {ok : Bool} {d d′ : List ℕ} {at : ℕ} {f : ℕ → ℕ} {n : 
 put-was p e = rw e at (p .bytes)
 
 -- a copy, where both have room
-pub put-copied : {d d′ : List ℕ} {at n : ℕ} {r : Bool} (src : List ℕ) (from : ℕ) → Put (room (length src) from n && room (length d) at n) d at (bytesOf src from) n d′ r
+pub put-copied : {d d′ : List ℕ} {at n : ℕ} {r : Bool} (src : List ℕ) (from : ℕ)
+    → Put (room (length src) from n && room (length d) at n) d at (bytesOf src from) n d′ r
     → from + n ≤ length src → at + n ≤ length d → d′ ≡ filled d at (bytesOf src from) n
 put-copied {d} {d′} {at} {n} src from p s t = put-was p (rw (room-yes (length src) from n s, room-yes (length d) at n t))
 
@@ -69,6 +70,11 @@ byte-of-word ws k j lt =
 pub word-more : (d : List ℕ) (at : ℕ) (ws : List ℕ) (k : ℕ)
     → filled (filled d at (laneIn ws) (8 * k)) (at + 8 * k) (bytesOf (toBytes 8 (getD ws k 0)) 0) 8 ≡ filled d at (laneIn ws) (8 * (k + 1))
 word-more d at ws k =
-    filled-ext (filled d at (laneIn ws) (8 * k)) (at + 8 * k) (bytesOf (toBytes 8 (getD ws k 0)) 0) (λ (j : ℕ). laneIn ws (8 * k + j)) 8 (byte-of-word ws k)
+    filled-ext (filled d at (laneIn ws) (8 * k)) (at + 8 * k) (bytesOf (toBytes 8 (getD ws k 0)) 0) (λ (j : ℕ). laneIn ws (8 * k + j))
+    8 (byte-of-word ws k)
     ∙ filled-add d at (laneIn ws) (8 * k) 8
     ∙ ap (λ (n : ℕ). filled d at (laneIn ws) n) (omega arith)
+
+-- no two answers, and no two lists, meet one contract
+pub put-one : {ok r q : Bool} {l l′ l″ : List ℕ} {at n : ℕ} {f : ℕ → ℕ} → Put ok l at f n l′ r → Put ok l at f n l″ q → (r ≡ q) × (l′ ≡ l″)
+put-one a b = (a .done ∙ sym (b .done), a .bytes ∙ sym (b .bytes))
