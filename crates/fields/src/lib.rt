@@ -5,6 +5,7 @@ use instruction_set::ArgumentSize;
 use instruction_set::Flags;
 use instruction_set::Part;
 ghost use mathlib.Core.Path.{_≡_};
+ghost use Prim.Native.Nat.{_+_, _*_, _/_, _%_, _^_};
 ghost use Rattle.fields.specs.Parts.{readOf, writeOf, memoryValue};
 ghost use Rattle.fields.specs.FlagBits.{flagOf, putFlag, signIn, evenOnes, computedFlags};
 
@@ -22,13 +23,20 @@ pub fn read_part(part: Part, x: u64) -> u64
     }
 }
 
+// x with its low half from value. A 32-bit write does this to 0, not to what stood there (01: "upper four become 0").
+fn with_low_half(x: u64, value: u64) -> u64
+    ensures { λ r. ⌜ r ≡ x / 2 ^ 32 * 2 ^ 32 + value % 2 ^ 32 ⌝ }
+{
+    x / 0x1_0000_0000 * 0x1_0000_0000 + value % 0x1_0000_0000
+}
+
 // The parent with the part's lanes rewritten.
 pub fn write_part(part: Part, x: u64, value: u64) -> u64
     ensures { λ r. ⌜ r ≡ writeOf part x value ⌝ }
 {
     match part {
         Part::Whole => value,
-        Part::Low32 => value % 0x1_0000_0000,
+        Part::Low32 => with_low_half(0, value),
         Part::Low16 => x / 0x1_0000 * 0x1_0000 + value % 0x1_0000,
         Part::Low8 => x / 0x100 * 0x100 + value % 0x100,
         Part::High8 => x / 0x1_0000 * 0x1_0000 + value % 0x100 * 0x100 + x % 0x100,

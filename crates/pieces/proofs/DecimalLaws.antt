@@ -3,7 +3,7 @@
 use mathlib.Core.Path.{_≡_, sym, ap, _∙_}
 use mathlib.Core.Logic.{⊎-elim}
 use mathlib.Core.List.{List, [], _∷_}
-use Prim.Native.Nat.{ℕ, _+_, _-_, _*_, _/_, _%_, _≤_, _<_}
+use Prim.Native.Nat.{ℕ, _+_, _-_, _*_, _≤_, _<_}
 use native.Mathlib.Omega.{arith}
 use borrow.Author.Tests.{lt-ltb, le-ltb}
 use Rattle.pieces.specs.Ascii.{decimalText}
@@ -14,10 +14,10 @@ unfoldable pub readDecimal : ℕ → List ℕ → ℕ
 readDecimal acc [] = acc
 readDecimal acc (b ∷ t) = readDecimal (acc * 10 + (b - 48)) t
 
--- read back, the text of x is x
-pub decimal-back : (x : ℕ) → readDecimal 0 (decimalText x) ≡ x
+-- read back, the text of x is x; three digits are all that the text has room for
+pub decimal-back : (x : ℕ) → x < 1000 → readDecimal 0 (decimalText x) ≡ x
 unfolding readDecimal
-decimal-back x = ⊎-elim one-digit (λ (g : 10 ≤ x). ⊎-elim (two-digits g) (three-digits g) (lt-or-le x 100)) (lt-or-le x 10)
+decimal-back x u = ⊎-elim one-digit (λ (g : 10 ≤ x). ⊎-elim (two-digits g) (three-digits g) (lt-or-le x 100)) (lt-or-le x 10)
   where
     one-digit : x < 10 → readDecimal 0 (decimalText x) ≡ x
     one-digit l = simp (lt-ltb x 10 l) (omega arith)
@@ -29,5 +29,5 @@ decimal-back x = ⊎-elim one-digit (λ (g : 10 ≤ x). ⊎-elim (two-digits g) 
     three-digits g h = simp (le-ltb x 10 g, le-ltb x 100 h) (omega arith)
 
 -- each number's decimal text belongs to it alone
-pub decimal-one : (x y : ℕ) → decimalText x ≡ decimalText y → x ≡ y
-decimal-one x y e = sym (decimal-back x) ∙ ap (readDecimal 0) e ∙ decimal-back y
+pub decimal-one : (x y : ℕ) → x < 1000 → y < 1000 → decimalText x ≡ decimalText y → x ≡ y
+decimal-one x y u v e = sym (decimal-back x u) ∙ ap (readDecimal 0) e ∙ decimal-back y v

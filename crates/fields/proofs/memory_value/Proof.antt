@@ -1,4 +1,4 @@
--- `fields::memory_value` meets its contract: each arm extends as the definition says, and a byte that is cut off is a
+-- `fields::memory_value` meets its contract: each arm gives what the definition says, and a byte that is cut off is a
 -- word of 64 bits, which extending leaves as it is. Assumes nothing.
 use Rattle.utils.proofs.Extend.{extend-whole}
 use native.Mathlib.Omega.{arith}

@@ -12,7 +12,7 @@ returns c = rw (c .enum-told .given .1) (omega arith)
 
 returns-2 : tie.Need-returns-2
 unfolding writeOf put
-returns-2 c = rw (c .enum-told2 .given .1) (omega arith)
+returns-2 c = rw (c .with-low-half .ensures, c .before .enum-told2 .given .1) (omega arith)
 
 returns-3 : tie.Need-returns-3
 unfolding writeOf put
@@ -33,7 +33,7 @@ returns-6 c = rw (c .enum-told6 .given .1) (omega arith)
 pub write-part-spec : {M : Type 1} → statement M
 write-part-spec =
     tie.close
-    (tie.spec (λ c. search needs) (λ c. search needs) (λ c. search needs) (λ c. search needs) (λ c. search needs)
+    (tie.spec (λ c. search needs) (λ c. search needs) (λ c κs. search needs) (λ c. search needs) (λ c. search needs)
     (λ c. search needs) (λ c. search needs) (λ c. search needs) (λ c. search needs) (λ c. search needs)
-    (λ c. search needs) (λ c. search needs) (λ c. search needs) (λ c. search needs) returns returns-2 returns-3
-    returns-4 returns-5 returns-6)
+    (λ c. search needs) (λ c. search needs) (λ c. search needs) (λ c. search needs) (λ c. search needs) returns
+    returns-2 returns-3 returns-4 returns-5 returns-6)
