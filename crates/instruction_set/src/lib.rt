@@ -6,7 +6,8 @@ ghost use mathlib.Core.Path.{_≡_};
 ghost use Prim.Native.Nat.{_*_};
 ghost use Rattle.instruction_set.specs.Registers.{parentOf, partOf};
 ghost use Rattle.instruction_set.specs.Sizes.{bytesOf, sizeOfPart, registerSize, bitOf};
-ghost use Rattle.instruction_set.specs.Arguments.{oneOutcome, oneArgument, twoOutcome, twoArguments, sizeOutcome, sizeOr, selectedSize};
+ghost use Rattle.instruction_set.specs.Arguments.{oneOutcome, oneArgument, twoOutcome, twoArguments, sizeOutcome, sizeOr};
+ghost use Rattle.instruction_set.specs.Arguments.{selectedSize};
 ghost use Rattle.instruction_set.specs.Builder.{newBuilder, withFirst, withSecond, withOpcode, withSize, withRepeat, built};
 
 // In the Rust's order.

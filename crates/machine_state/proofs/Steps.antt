@@ -28,7 +28,8 @@ use Rattle.mmu.specs.declared.Answer.the-variants as memory
 use Rattle.mmu.specs.declared.Shown.{Shown}
 use Rattle.machine_state.specs.Address.{addressOf}
 use Rattle.machine_state.specs.Answers.{Value, After, left, outcomeOf, numberOf}
-use Rattle.machine_state.specs.Memory.{after, passed, eventShown, readMemory, writeMemory, valued, withValue, loaded, storedAt, atAddress, readOperand, writeOperand, moved, below, cr3}
+use Rattle.machine_state.specs.Memory.{after, passed, eventShown, readMemory, writeMemory, valued, withValue, loaded, storedAt}
+use Rattle.machine_state.specs.Memory.{atAddress, readOperand, writeOperand, moved, below, cr3}
 use Rattle.machine_state.specs.Steps.{answered, finished, fromMemory, isRefused, givenValue, givenRsp}
 use Rattle.machine_state.specs.declared.Answer.{Answer}
 use Rattle.machine_state.specs.declared.Answer.the-variants as answer

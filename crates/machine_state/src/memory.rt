@@ -13,7 +13,8 @@ ghost use mathlib.Core.List.{[]};
 ghost use mathlib.Core.Path.{_≡_};
 ghost use Rattle.store.specs.Store.{storeOf};
 ghost use Rattle.machine_state.specs.Answers.{left};
-ghost use Rattle.machine_state.specs.Memory.{eventShown, readMemory, writeMemory, loaded, storedAt, readOperand, writeOperand, pushed, popped};
+ghost use Rattle.machine_state.specs.Memory.{eventShown, readMemory, writeMemory, loaded, storedAt, readOperand, writeOperand};
+ghost use Rattle.machine_state.specs.Memory.{pushed, popped};
 ghost use Rattle.machine_state.specs.Steps.{finished, fromMemory, givenValue, givenRsp};
 ghost use Rattle.instruction_set.specs.declared.ArgumentSize.the-variants.{Bit8};
 

@@ -14,7 +14,8 @@ use Rattle.store.specs.Store.{Store, storeOf, sound, live, slotOf, unused, read
 use Rattle.store.specs.Facts.{Sound}
 use Rattle.store.specs.declared.Found.the-variants.{At}
 use Rattle.mmu.specs.Walk.{physical}
-use Rattle.mmu.specs.Calls.{numberOf, outcomeOf, readOutcome, readOut, writeOutcome, writeStore, byteOf, cell, shownAt, shownOf, Wrote}
+use Rattle.mmu.specs.Calls.{numberOf, outcomeOf, readOutcome, readOut, writeOutcome, writeStore, byteOf, cell, shownAt, shownOf}
+use Rattle.mmu.specs.Calls.{Wrote}
 use Rattle.mmu.specs.Parts.{Fits, RefusedFor}
 use Rattle.mmu.specs.declared.Refusal.{Refusal}
 use Rattle.mmu.specs.declared.Refusal.the-variants.{BadStore, TooLong, NoRoom}

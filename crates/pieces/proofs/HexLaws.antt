@@ -5,7 +5,8 @@ use mathlib.Core.Logic.{⊎-elim, _⊎_, inl, inr}
 use mathlib.Core.Bool.{Bool, true, false, cond}
 use mathlib.Core.List.{List, [], _∷_}
 use Prim.Native.Nat.{ℕ, zero, suc, _+_, _-_, _*_, _/_, _%_, _^_, _≤_, _<_}
-use native.Mathlib.Nat.{add-mul, mul-assoc, add-assoc, mod-lt, eq-zero-or-pos, lt-of-lt-of-le, le-trans, mod-eq-of-lt, mod-one, lt-irrefl, mul-one, add-zero, zero-mul, zero-add}
+use native.Mathlib.Nat.{add-mul, mul-assoc, add-assoc, mod-lt, eq-zero-or-pos, lt-of-lt-of-le, le-trans, mod-eq-of-lt, mod-one, lt-irrefl}
+use native.Mathlib.Nat.{mul-one, add-zero, zero-mul, zero-add}
 use native.Mathlib.Omega.{arith}
 use borrow.Author.Tests.{lt-ltb, le-ltb, ltb-true, ltb-false}
 use lib.Dec.{ltb}

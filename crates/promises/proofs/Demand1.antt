@@ -21,11 +21,13 @@ use Rattle.store.specs.Store.{Store, sound, live, unused, touched, absentOf}
 use Rattle.mmu.specs.Walk.{physical}
 use Rattle.machine_state.specs.Address.{addressOf}
 use Rattle.machine_state.specs.Answers.{word, After}
-use Rattle.machine_state.specs.Memory.{after, passed, cr3, rsp, below, readMemory, writeMemory, valued, withValue, loaded, storedAt, readOperand, writeOperand, moved, pushed, popped}
+use Rattle.machine_state.specs.Memory.{after, passed, cr3, rsp, below, readMemory, writeMemory, valued, withValue, loaded, storedAt}
+use Rattle.machine_state.specs.Memory.{readOperand, writeOperand, moved, pushed, popped}
 use Rattle.machine_state.specs.declared.Event.the-variants.{Quiet}
 use Rattle.machine_state.specs.declared.MachineState.{MachineState}
 use Rattle.calls.specs.Step.{step, beside}
-use Rattle.calls.specs.declared.Call.the-variants.{ReadOperand, WriteOperand, EffectiveAddress, Push, Pop, ReadMemory, WriteMemory, TestFlag, SetFlag, ComputeFlags}
+use Rattle.calls.specs.declared.Call.the-variants.{ReadOperand, WriteOperand, EffectiveAddress, Push, Pop, ReadMemory, WriteMemory}
+use Rattle.calls.specs.declared.Call.the-variants.{TestFlag, SetFlag, ComputeFlags}
 use Rattle.promises.specs.Untouched.{Untouched, RefusedUntouched}
 
 -- ---- memory's outcomes give no value

@@ -39,13 +39,15 @@ use Rattle.mmu.proofs.Walked.{physical-off}
 use Rattle.machine_state.specs.Address.{addressOf}
 use Rattle.machine_state.specs.Answers.{word, After}
 use Rattle.machine_state.specs.Flagged.{setFlag, computeFlags}
-use Rattle.machine_state.specs.Memory.{rsp, cr3, withRsp, after, passed, readMemory, writeMemory, loaded, storedAt, readOperand, writeOperand, below, pushed, popped}
+use Rattle.machine_state.specs.Memory.{rsp, cr3, withRsp, after, passed, readMemory, writeMemory, loaded, storedAt, readOperand}
+use Rattle.machine_state.specs.Memory.{writeOperand, below, pushed, popped}
 use Rattle.machine_state.specs.declared.Event.the-variants.{Quiet}
 use Rattle.machine_state.specs.declared.MachineState.{MachineState}
 use Rattle.machine_state.proofs.Lanes.{write-read}
 use Rattle.calls.specs.Step.{step}
 use Rattle.calls.specs.declared.Call.{Call}
-use Rattle.calls.specs.declared.Call.the-variants.{ReadOperand, WriteOperand, EffectiveAddress, Push, Pop, ReadMemory, WriteMemory, TestFlag, SetFlag, ComputeFlags}
+use Rattle.calls.specs.declared.Call.the-variants.{ReadOperand, WriteOperand, EffectiveAddress, Push, Pop, ReadMemory, WriteMemory}
+use Rattle.calls.specs.declared.Call.the-variants.{TestFlag, SetFlag, ComputeFlags}
 use Rattle.rows.specs.Exposed.{end}
 use Rattle.rows.specs.Places.{Act, State, Sound, place, does, rewrites}
 use Rattle.rows.specs.Rows.{nothing as noSpans, flagSpan, rewriteSpan, rewritesOf, inSpan, inSpans}
@@ -53,7 +55,9 @@ use Rattle.rows.proofs.Owed.{owes}
 use Rattle.rows.proofs.Places.{write-new, flag-new, flag-renews, rsp-written}
 use Rattle.rows.proofs.Theorem.{stays-sound}
 use Rattle.rows.proofs.Within.{in-low, in-high, in-out, one-only, three-only, nothing-in}
-use Rattle.promises.specs.Demand2.{ReadsBack, WalkStays, OthersStay, PopsBack, RegistersBack, OperandsBack, FlagsBack, Given, nothing, ifSo, holding, last, byteWritten, byteGiven, BytesLast, placeValue, placeGiven, PlacesLast, slotsFor, slotsTaken, allTaken, CountRule}
+use Rattle.promises.specs.Demand2.{ReadsBack, WalkStays, OthersStay, PopsBack, RegistersBack, OperandsBack, FlagsBack, Given}
+use Rattle.promises.specs.Demand2.{nothing, ifSo, holding, last, byteWritten, byteGiven, BytesLast, placeValue, placeGiven}
+use Rattle.promises.specs.Demand2.{PlacesLast, slotsFor, slotsTaken, allTaken, CountRule}
 use Rattle.promises.specs.Refusals.{Access, none, reading, writing, accessOf}
 use Rattle.promises.proofs.Demand1.{refused-untouched}
 

@@ -23,11 +23,13 @@ use Rattle.store.specs.Store.{Store, sound, live, unused, touched, absentOf}
 use Rattle.mmu.specs.Walk.{physical}
 use Rattle.machine_state.specs.Address.{addressOf}
 use Rattle.machine_state.specs.Answers.{Value}
-use Rattle.machine_state.specs.Memory.{passed, cr3, rsp, below, readMemory, writeMemory, valued, loaded, storedAt, readOperand, writeOperand, pushed, popped}
+use Rattle.machine_state.specs.Memory.{passed, cr3, rsp, below, readMemory, writeMemory, valued, loaded, storedAt, readOperand}
+use Rattle.machine_state.specs.Memory.{writeOperand, pushed, popped}
 use Rattle.machine_state.specs.declared.MachineState.{MachineState}
 use Rattle.calls.specs.Step.{step}
 use Rattle.calls.specs.declared.Call.{Call}
-use Rattle.calls.specs.declared.Call.the-variants.{ReadOperand, WriteOperand, EffectiveAddress, Push, Pop, ReadMemory, WriteMemory, TestFlag, SetFlag, ComputeFlags}
+use Rattle.calls.specs.declared.Call.the-variants.{ReadOperand, WriteOperand, EffectiveAddress, Push, Pop, ReadMemory, WriteMemory}
+use Rattle.calls.specs.declared.Call.the-variants.{TestFlag, SetFlag, ComputeFlags}
 use Rattle.rows.specs.Rows.{reaches}
 use Rattle.promises.specs.Refusals.{accessOf, Check, check, checks, firstHeld, noneHolds, RefusedInOrder, AcceptedExactly}
 

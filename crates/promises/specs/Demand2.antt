@@ -29,7 +29,8 @@ use Rattle.machine_state.specs.Memory.{rsp, cr3, after, below, readMemory, writ
 use Rattle.machine_state.specs.declared.Event.the-variants.{Quiet}
 use Rattle.machine_state.specs.declared.MachineState.{MachineState}
 use Rattle.calls.specs.declared.Call.{Call}
-use Rattle.calls.specs.declared.Call.the-variants.{ReadOperand, WriteOperand, EffectiveAddress, Push, Pop, ReadMemory, WriteMemory, TestFlag, SetFlag, ComputeFlags}
+use Rattle.calls.specs.declared.Call.the-variants.{ReadOperand, WriteOperand, EffectiveAddress, Push, Pop, ReadMemory, WriteMemory}
+use Rattle.calls.specs.declared.Call.the-variants.{TestFlag, SetFlag, ComputeFlags}
 use Rattle.rows.specs.Exposed.{end}
 use Rattle.rows.specs.Places.{Act, State, Sound, place, does, rewrites}
 use Rattle.promises.specs.Refusals.{Access, none, reading, writing, accessOf}

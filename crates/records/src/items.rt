@@ -17,8 +17,10 @@ use numbers::register_at;
 use numbers::size_at;
 ghost use mathlib.Core.Path.{_≡_};
 ghost use Rattle.records.specs.Built.{argumentsOf, firstGiven, secondGiven, opcodeGiven, sizeGiven};
-ghost use Rattle.records.specs.Decoded.{partAt, factorAt, farAt, explicitAt, codeAt, registerOperand, addressOperand, operandAt, givenAt, argumentsAt};
-ghost use Rattle.records.specs.Decoded.{readCall, writeCall, addressCall, testCall, setCall, computeCall, callOf, controlEvent, videoEvent, eventAt};
+ghost use Rattle.records.specs.Decoded.{partAt, factorAt, farAt, explicitAt, codeAt, registerOperand, addressOperand, operandAt};
+ghost use Rattle.records.specs.Decoded.{givenAt, argumentsAt};
+ghost use Rattle.records.specs.Decoded.{readCall, writeCall, addressCall, testCall, setCall, computeCall, callOf, controlEvent};
+ghost use Rattle.records.specs.Decoded.{videoEvent, eventAt};
 
 // A base or an index of a record, or a word that names none.
 pub(crate) enum Part {

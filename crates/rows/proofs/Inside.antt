@@ -12,8 +12,10 @@ use Rattle.instruction_set.specs.declared.SomeRegister.{SomeRegister}
 use Rattle.instruction_set.specs.declared.SomeRegister.the-variants.{Absent, Present}
 use Rattle.instruction_set.proofs.Bounds.{parent-below, reads-within, rewrites-within}
 use Rattle.calls.specs.declared.Call.{Call}
-use Rattle.calls.specs.declared.Call.the-variants.{ReadOperand, WriteOperand, EffectiveAddress, Push, Pop, ReadMemory, WriteMemory, TestFlag, SetFlag, ComputeFlags}
-use Rattle.rows.specs.Rows.{spans, none, rsp, cr3, nothing, readSpan, rewriteSpan, partSpan, flagSpan, readsOf, rewritesOf, inSpans, Inside}
+use Rattle.calls.specs.declared.Call.the-variants.{ReadOperand, WriteOperand, EffectiveAddress, Push, Pop, ReadMemory, WriteMemory}
+use Rattle.calls.specs.declared.Call.the-variants.{TestFlag, SetFlag, ComputeFlags}
+use Rattle.rows.specs.Rows.{spans, none, rsp, cr3, nothing, readSpan, rewriteSpan, partSpan, flagSpan, readsOf, rewritesOf, inSpans}
+use Rattle.rows.specs.Rows.{Inside}
 use Rattle.rows.specs.declared.Span.{Span}
 use Rattle.rows.specs.declared.Spans.{Spans}
 use Rattle.rows.proofs.Within.{in-out, flag-below}

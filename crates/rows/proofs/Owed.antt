@@ -23,18 +23,23 @@ use Rattle.machine_state.specs.Address.{addressOf}
 use Rattle.machine_state.specs.Answers.{word, truth}
 use Rattle.machine_state.specs.Flagged.{flagIn, setFlag, computeFlags}
 use Rattle.machine_state.specs.Machine.{readReg, writeReg, eventOf}
-use Rattle.machine_state.specs.Memory.{rsp as rspOf, cr3 as cr3Of, passed, readMemory, writeMemory, loaded, storedAt, readOperand, writeOperand, below, pushed, popped}
+use Rattle.machine_state.specs.Memory.{rsp as rspOf, cr3 as cr3Of, passed, readMemory, writeMemory, loaded, storedAt, readOperand}
+use Rattle.machine_state.specs.Memory.{writeOperand, below, pushed, popped}
 use Rattle.machine_state.specs.declared.Event.the-variants.{Quiet}
 use Rattle.machine_state.specs.declared.MachineState.{MachineState}
 use Rattle.calls.specs.Step.{step}
 use Rattle.calls.specs.declared.Call.{Call}
-use Rattle.calls.specs.declared.Call.the-variants.{ReadOperand, WriteOperand, EffectiveAddress, Push, Pop, ReadMemory, WriteMemory, TestFlag, SetFlag, ComputeFlags}
+use Rattle.calls.specs.declared.Call.the-variants.{ReadOperand, WriteOperand, EffectiveAddress, Push, Pop, ReadMemory, WriteMemory}
+use Rattle.calls.specs.declared.Call.the-variants.{TestFlag, SetFlag, ComputeFlags}
 use Rattle.rows.specs.Places.{Sound, does, reads, rewrites, reachesMemory, placeIn, storeIn, SoundState}
 use Rattle.rows.specs.Rows.{rsp, cr3, partSpan, flagSpan, rewriteSpan, readsOf, rewritesOf, reaches, inSpan, inSpans}
 use Rattle.rows.specs.declared.Spans.{Spans}
 use Rattle.rows.proofs.Forgotten.{Owed}
-use Rattle.rows.proofs.Places.{Agrees, register-same, parent-same, sum-same, flag-same, AgreeWhere, same-where, register-renews, flag-renews, computed-renews}
-use Rattle.rows.proofs.Shapes.{rewritten, Agree, Owes, one-span, answers-only, changes-only, Same, by-memory, read-alike, write-alike, load-alike, store-alike, at-alike, load-still, store-still, at-still, lent-back, StackAccess, StackAlike, stack}
+use Rattle.rows.proofs.Places.{Agrees, register-same, parent-same, sum-same, flag-same, AgreeWhere, same-where, register-renews}
+use Rattle.rows.proofs.Places.{flag-renews, computed-renews}
+use Rattle.rows.proofs.Shapes.{rewritten, Agree, Owes, one-span, answers-only, changes-only, Same, by-memory, read-alike}
+use Rattle.rows.proofs.Shapes.{write-alike, load-alike, store-alike, at-alike, load-still, store-still, at-still, lent-back}
+use Rattle.rows.proofs.Shapes.{StackAccess, StackAlike, stack}
 use Rattle.rows.proofs.Within.{in-one, in-two, in-three, three-only}
 
 -- ---- what the rows read

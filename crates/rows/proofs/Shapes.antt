@@ -17,7 +17,8 @@ use Rattle.mmu.specs.Calls.{readOutcome, readOut, writeOutcome, writeStore, sho
 use Rattle.store.specs.Store.{Store}
 use Rattle.mmu.specs.Walk.{physical}
 use Rattle.machine_state.specs.Answers.{Value, After}
-use Rattle.machine_state.specs.Memory.{cr3 as cr3Of, withRsp, after, passed, eventShown, readMemory, writeMemory, valued, loaded, storedAt, atAddress, moved}
+use Rattle.machine_state.specs.Memory.{cr3 as cr3Of, withRsp, after, passed, eventShown, readMemory, writeMemory, valued, loaded}
+use Rattle.machine_state.specs.Memory.{storedAt, atAddress, moved}
 use Rattle.machine_state.specs.declared.Event.{Event}
 use Rattle.machine_state.specs.declared.Event.the-variants.{Quiet}
 use Rattle.machine_state.specs.declared.MachineState.{MachineState}

@@ -11,7 +11,8 @@ use instruction_set::Register;
 use instruction_set::SomeRegister;
 ghost use mathlib.Core.Path.{_≡_};
 ghost use Rattle.instruction_set.specs.Registers.{firstOf, readsOf as lanesRead, rewritesOf as lanesRewritten};
-ghost use Rattle.rows.specs.Rows.{flagPlace, spans, none, readSpan, rewriteSpan, partSpan, flagSpan, operandReads, addressReads, operandRewrites, readsOf, rewritesOf};
+ghost use Rattle.rows.specs.Rows.{flagPlace, spans, none, readSpan, rewriteSpan, partSpan, flagSpan, operandReads, addressReads};
+ghost use Rattle.rows.specs.Rows.{operandRewrites, readsOf, rewritesOf};
 
 // count places from start on
 pub struct Span {

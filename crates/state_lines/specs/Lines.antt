@@ -6,7 +6,8 @@ use lib.Dec.{ltb}
 use lib.ListN.{length, getD, replicate}
 use Rattle.instruction_set.specs.Registers.{parentOf}
 use Rattle.instruction_set.specs.declared.Register.{Register}
-use Rattle.instruction_set.specs.declared.Register.the-variants.{RAX, RBX, RCX, RDX, RSI, RDI, RBP, RSP, R8, R9, R10, R11, R12, R13, R14, R15, RIP}
+use Rattle.instruction_set.specs.declared.Register.the-variants.{RAX, RBX, RCX, RDX, RSI, RDI, RBP, RSP, R8, R9, R10, R11, R12, R13, R14}
+use Rattle.instruction_set.specs.declared.Register.the-variants.{R15, RIP}
 use Rattle.machine_state.specs.declared.Event.{Event}
 use Rattle.machine_state.specs.declared.Event.the-variants as event
 use Rattle.machine_state.specs.declared.MachineState.{MachineState}

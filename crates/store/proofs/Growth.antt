@@ -10,7 +10,8 @@ use native.Mathlib.Omega.{arith}
 use native.Mathlib.Decide.{ℕ-discrete}
 use lib.ListN.{length, getD, set, length-set}
 use lib.Seq.{getD-set-same, getD-set-other, getD-take}
-use Rattle.store.specs.Store.{Store, storeOf, live, foundIn, byteAt, takenIf, withPage, stored, putByte, written, lack, pagesFrom, touched, absentOf}
+use Rattle.store.specs.Store.{Store, storeOf, live, foundIn, byteAt, takenIf, withPage, stored, putByte, written, lack, pagesFrom}
+use Rattle.store.specs.Store.{touched, absentOf}
 use Rattle.store.specs.Facts.{Sound, Room, noBytes}
 use Rattle.store.specs.declared.Found.{Found}
 use Rattle.store.specs.declared.Found.the-variants.{At, Nothing}
