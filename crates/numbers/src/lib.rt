@@ -1,5 +1,5 @@
 // Registers, sizes and flags by their numbers, in the Rust's order, as the records of the comparison give them (docs/FORMAT.md). Below is
-// instruction_set, which has the names; above is records. No demand of document 01 rests on this crate.
+// instruction_set, which has the names; above are records, and name_reading, which finds a register by its number (document 02, No. 1).
 use instruction_set::ArgumentSize;
 use instruction_set::Flags;
 use instruction_set::Register;

@@ -1,7 +1,7 @@
 // The pieces of a text: each writer stores its bytes from a place on, where the buffer has room, and answers the place after them. So over
 // an empty buffer it measures. One record, `Put`, is the contract of all, and writers one after the other compose by it
-// (proofs/Writing.antt). It stands on no crate; above it are register_names, operand_text and state_lines, which put texts together.
-// Document 01, "Text": hex without leading zeros, its digit count from the highest set bit; a scale in decimal.
+// (proofs/Writing.antt). It stands on no crate; above it are register_names, operand_text and state_lines, which put texts together, and
+// number_reading, which reads numbers back. Document 01, "Text": hex without leading zeros, its digit count from the highest set bit; a scale in decimal.
 ghost use mathlib.Core.Path.{_≡_};
 ghost use mathlib.Core.List.{[], _∷_};
 ghost use Prim.Native.Nat.{_≤_, _<_};

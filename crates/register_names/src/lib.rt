@@ -1,5 +1,5 @@
 // The registers' names, as they stand in operands and in the lines of the state: one writer, `put_name`. Below are instruction_set, whose
-// registers are named, and pieces; above are operand_text and state_lines. Document 01, "Text": "Register: `%` and the lowercase name".
+// registers are named, and pieces; above are operand_text, state_lines and name_reading. Document 01, "Text": "Register: `%` and the lowercase name".
 use instruction_set::Part;
 use instruction_set::Register;
 use pieces::put_byte;

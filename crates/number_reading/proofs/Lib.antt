@@ -1,0 +1,4 @@
+pub mod Growth
+pub mod Signs
+pub mod Digits
+pub mod Texts

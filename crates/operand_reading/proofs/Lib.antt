@@ -1,0 +1,9 @@
+pub mod Turns
+pub mod Texts
+pub mod Shapes
+pub mod Stands
+pub mod Running
+pub mod Through
+pub mod GoesOn
+pub mod Printed
+pub mod Answers
