@@ -6,8 +6,8 @@ import sys
 KINDS = {1: "read operand", 2: "write operand", 3: "effective address", 4: "push", 5: "pop", 6: "read memory", 7: "write memory", 8: "test flag",
          9: "set flag", 10: "compute_flags", 11: "read byte", 16: "size", 17: "one argument", 18: "two arguments", 20: "page view", 24: "reset",
          25: "load", 26: "show machine", 27: "show directory", 28: "show bytes", 32: "operand text at a size", 33: "arguments text", 34: "state text",
-         35: "event line", 36: "operand text", 37: "register text", 40: "exposed report"}
-TEXTS, REPORT = range(32, 38), 40
+         35: "event line", 36: "operand text", 37: "register text", 38: "operand text read back", 40: "exposed report"}
+TEXTS, READ_BACK, REPORT = range(32, 38), 38, 40
 
 
 def records(data, words, length_at):
@@ -45,6 +45,8 @@ def show(kind, answer):
 def first_difference(i, call, wanted, given):
     head, block = call
     print("record %d, %s" % (i, told(head)))
+    if head[0] == READ_BACK:
+        print("  of", block)
     if head[0] == REPORT:
         for inner, _ in records(block, 16, 1):
             print("  of", told(inner))
@@ -55,16 +57,21 @@ def first_difference(i, call, wanted, given):
     print("got:     ", show(head[0], given))
 
 
-calls, expected, got = (open(name, "rb").read() for name in sys.argv[1:4])
-answers = records(got, 8, 7)
-differ = 0
-for i, (call, wanted) in enumerate(zip(records(calls, 16, 1), records(expected, 8, 7))):
-    given = next(answers, None)
-    if given != wanted:
-        if differ == 0:
-            first_difference(i, call, wanted, given)
-        differ += 1
-more = sum(1 for _ in answers)
-if more:
-    print("answers to no record: %d" % more)
-print("differ: %d" % (differ + more))
+def main():
+    calls, expected, got = (open(name, "rb").read() for name in sys.argv[1:4])
+    answers = records(got, 8, 7)
+    differ = 0
+    for i, (call, wanted) in enumerate(zip(records(calls, 16, 1), records(expected, 8, 7))):
+        given = next(answers, None)
+        if given != wanted:
+            if differ == 0:
+                first_difference(i, call, wanted, given)
+            differ += 1
+    more = sum(1 for _ in answers)
+    if more:
+        print("answers to no record: %d" % more)
+    print("differ: %d" % (differ + more))
+
+
+if __name__ == "__main__":
+    main()

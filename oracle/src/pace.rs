@@ -2,6 +2,7 @@
 //! processor time go to standard error. It has no Rust runtime (no_main): under the kit's emulator that one fails on /proc/self/maps.
 #![no_main]
 extern crate rust;
+mod reading;
 mod report;
 use rust::instruction_set::Register::{self, *};
 use rust::instruction_set::{ArgumentSize, Flags, InstructionArgument};
@@ -10,7 +11,7 @@ extern "C" {
     fn clock() -> i64;
 }
 
-const NAMES: [&str; 17] = [
+const NAMES: [&str; 18] = [
     "read 8 bytes, 1 page",
     "read 8 bytes, 16 pages",
     "read 8 bytes, 512 pages",
@@ -26,6 +27,7 @@ const NAMES: [&str; 17] = [
     "flags: compute, set, test",
     "effective address",
     "operand text",
+    "operand text read back",
     "state text",
     "exposed report of 64 calls",
 ];
@@ -253,13 +255,14 @@ fn run(row: u64, turns: u64) -> u64 {
         12 => flags(turns),
         13 => addresses(turns),
         14 => operands(turns),
-        15 => states(turns),
+        15 => reading::read_back(turns),
+        16 => states(turns),
         _ => report::reports(turns),
     }
 }
 
 fn show(row: u64, turns: u64) {
-    println!("{}: {:016x}", NAMES[row.min(16) as usize], run(row, turns));
+    println!("{}: {:016x}", NAMES[row.min(17) as usize], run(row, turns));
 }
 
 #[no_mangle]
@@ -267,7 +270,7 @@ pub extern "C" fn main(_: i32, _: *const *const u8) -> i32 {
     std::panic::set_hook(Box::new(|_| {}));
     let words: Vec<u64> = std::env::args().skip(1).map(|w| w.parse().unwrap_or(0)).collect();
     if words.len() < 2 {
-        (0..17).for_each(|row| show(row, 100));
+        (0..18).for_each(|row| show(row, 100));
         return 0;
     }
     let began = unsafe { clock() };

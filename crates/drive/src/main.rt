@@ -1,12 +1,15 @@
 // Calls in, answers out: reads records from standard input, carries each out and writes its answer to standard output, until the input ends
 // (docs/FORMAT.md). The machine goes from record to record by value; the store lies in arrays of main's, lent downwards. Everything but reading
-// and writing is in records and session, below. tools/compare feeds this program the calls that the Rust was given, and compares the answers.
+// and writing is in records and session, below, but for the few records of services.rt. tools/compare feeds this program the calls that the Rust was
+// given, and compares the answers.
 use libc::STDERR_FILENO;
 use libc::STDIN_FILENO;
 use libc::STDOUT_FILENO;
 use machine_state::MachineState;
 use records::Header;
 use session::Carried;
+
+mod services; // services.rt: the records that leave the machine and the store
 
 // Where the program stands: the machine, how much of the arrays is the store, the slots in use, whether to go on, and how many records were answered.
 struct Run {
@@ -147,6 +150,10 @@ fn carry_out(
 ) -> Run {
     if header.kind == records::RESET {
         return restart(header, run, block, dir, bytes);
+    }
+    if services::serves(header.kind) {
+        let left = services::serve(header, run.machine, run.used, block);
+        return answer(left, run, block);
     }
     let n = lent_length(header);
     if fills(header.kind) {

@@ -25,6 +25,7 @@ mod reset; // reset.rt: a machine and a store from a record
 mod report; // report.rt: the exposed places of the calls in a block
 
 pub use reset::reset_to;
+pub use show::words;
 
 // What a record leaves, beside the slices.
 pub struct Carried {

@@ -14,7 +14,7 @@ ghost use Rattle.session.specs.Replies.{WordsGiven};
 ghost use Rattle.session.specs.Shows.{PageGiven, BytesGiven, ViewGiven, MachineGiven, Loaded};
 
 // Words, low byte first.
-pub(crate) fn words(words: &[u64], lent: &mut [u8]) -> Reply
+pub fn words(words: &[u64], lent: &mut [u8]) -> Reply
     ensures { λ r. ⌜ WordsGiven (now (words .entry)) (now (lent .entry)) r (now (lent .exit)) ⌝ }
 {
     if !runs::put_words(lent, 0, words) {
