@@ -10,7 +10,7 @@ mod registers; // registers.rt
 mod report; // report.rt
 mod texts; // texts.rt
 
-const ROWS: u64 = 17;
+const ROWS: u64 = 18;
 
 // A row's sum takes in an answer.
 pub(crate) fn mix(sum: u64, answer: u64) -> u64 {
@@ -62,7 +62,8 @@ fn name(row: u64) -> bool {
         12 => say(b"flags: compute, set, test"),
         13 => say(b"effective address"),
         14 => say(b"operand text"),
-        15 => say(b"state text"),
+        15 => say(b"operand text read back"),
+        16 => say(b"state text"),
         _ => say(b"exposed report of 64 calls"),
     }
 }
@@ -80,7 +81,8 @@ fn run(row: u64, turns: u64, dir: &mut [u64], bytes: &mut [u8]) -> u64 {
     }
     match row {
         14 => texts::operands(turns),
-        15 => texts::states(turns),
+        15 => texts::read_back(turns),
+        16 => texts::states(turns),
         _ => report::reports(turns),
     }
 }

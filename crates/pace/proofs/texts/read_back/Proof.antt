@@ -1,0 +1,17 @@
+-- `pace::texts::read_back` is safe and ends: the turns are counted up. Assumes nothing.
+use Prim.Native.Nat.{_-_}
+use borrow.Author.Needs.{needs}
+use Rattle.pace.proofs.texts.read_back.Statement.{statement}
+use Rattle.pace.proofs.texts.read_back.Tie as tie
+
+abbrev Inv-loop : tie.InvT-loop
+Inv-loop turns texts lengths sum₀ i₀ sum i = Unit {0}
+
+abbrev μ-loop : tie.MeasureT-loop
+μ-loop turns texts lengths sum₀ i₀ sum i = turns - i
+
+pub read-back-spec : {M : Type 1} → statement M
+read-back-spec =
+    tie.close
+    (tie.spec Inv-loop μ-loop (λ c κs. search needs) (λ c. search needs) (λ c κs. search needs) (λ c. search needs)
+    (λ c. search needs) (λ c. search needs) (λ c. search needs))
