@@ -124,7 +124,7 @@ pub fn negative(v: u64) -> u32
     if most_of(Numeral::Below) < v {
         return 0;
     }
-    if v == 0 {
+    if v < least_of(Numeral::Below) {
         return 0;
     }
     (0x1_0000_0000 - v) as u32
