@@ -22,7 +22,7 @@ use Rattle.instruction_set.proofs.InstructionArgument.{the-type as operand}
 use Rattle.fields.specs.Parts.{memoryValue}
 use Rattle.mmu.specs.Calls.{outcomeOf as memoryOutcome, readOutcome, readOut, Wrote}
 use Rattle.store.specs.Store.{Store, storeOf}
-use Rattle.mmu.specs.Walk.{physical}
+use Rattle.walk.specs.Walk.{physical}
 use Rattle.mmu.specs.declared.Answer.{Answer as MemoryAnswer}
 use Rattle.mmu.specs.declared.Answer.the-variants as memory
 use Rattle.mmu.specs.declared.Shown.{Shown}

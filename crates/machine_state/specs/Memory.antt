@@ -13,7 +13,7 @@ use Rattle.instruction_set.specs.declared.InstructionArgument.the-variants as a
 use Rattle.fields.specs.Parts.{memoryValue}
 use Rattle.mmu.specs.Calls.{readOutcome, readOut, writeOutcome, writeStore, shownOf}
 use Rattle.store.specs.Store.{Store}
-use Rattle.mmu.specs.Walk.{physical}
+use Rattle.walk.specs.Walk.{physical}
 use Rattle.mmu.specs.declared.Shown.{Shown}
 use Rattle.mmu.specs.declared.Shown.the-variants as shown
 use Rattle.machine_state.specs.Address.{addressOf}

@@ -3,20 +3,21 @@
 use mathlib.Core.Path.{_≡_, refl, sym, ap, _∙_}
 use mathlib.Core.Bool.{Bool, true, false, cond}
 use mathlib.Core.List.{List, [], _∷_}
-use Prim.Native.Nat.{ℕ, _+_, _*_, _%_, _<_, _≤_}
+use Prim.Native.Nat.{ℕ, _%_, _<_, _≤_}
 use native.Mathlib.Omega.{arith}
 use lib.Dec.{leb}
 use lib.ListN.{length, getD}
 use borrow.Author.Tests.{leb-true, le-leb, lt-leb, eq-eqb, ne-eqb}
-use Rattle.runs.specs.Runs.{tabulate, filled, bytesOf}
+use Rattle.runs.specs.Runs.{tabulate}
 use Rattle.utils.specs.Outcome.{Outcome, gives, refuses}
-use Rattle.store.specs.Store.{Store, storeOf, sound, live, slotOf, unused, readAt, written, touched, absentOf}
+use Rattle.store.specs.Store.{Store, storeOf, sound, live, unused, readAt, written, touched, absentOf}
 use Rattle.store.specs.Facts.{Sound}
-use Rattle.store.specs.declared.Found.the-variants.{At}
-use Rattle.mmu.specs.Walk.{physical}
-use Rattle.mmu.specs.Calls.{numberOf, outcomeOf, readOutcome, readOut, writeOutcome, writeStore, byteOf, cell, shownAt, shownOf}
+use Rattle.walk.specs.Walk.{physical, translated, readInto}
+use Rattle.writes.specs.Writes.{byteOf, Stored}
+use Rattle.writes.specs.Parts.{Fits}
+use Rattle.mmu.specs.Calls.{numberOf, outcomeOf, readOutcome, readOut, writeOutcome, writeStore, cell, shownAt, shownOf}
 use Rattle.mmu.specs.Calls.{Wrote}
-use Rattle.mmu.specs.Parts.{Fits, RefusedFor}
+use Rattle.mmu.specs.Parts.{RefusedFor}
 use Rattle.mmu.specs.declared.Refusal.{Refusal}
 use Rattle.mmu.specs.declared.Refusal.the-variants.{BadStore, TooLong, NoRoom}
 use Rattle.mmu.specs.declared.Answer.{Answer}
@@ -25,8 +26,8 @@ use Rattle.mmu.specs.declared.Shown.{Shown}
 use Rattle.mmu.specs.declared.Shown.the-variants.{Nothing as Dark, Byte}
 use Rattle.mmu.specs.declared.Written.{Written}
 use Rattle.store.proofs.Read.{sound-facts, sound-true}
-use Rattle.store.proofs.Absent.{slot-at, present-none}
-use Rattle.mmu.proofs.Turns.{part-whole}
+use Rattle.walk.proofs.Walked.{translated-of, read-of}
+use Rattle.writes.proofs.Stores.{done-room, done-written, lacks-room, lacks-same}
 
 -- ---- an outcome tells its answer
 refusal-one : (a b : Refusal) → numberOf a ≡ numberOf b → a ≡ b
@@ -73,6 +74,11 @@ pub out-done : (s : Store) (cr3 a : ℕ) (out : List ℕ) → readOutcome s (len
     → readOut s cr3 a out ≡ readAt s (physical s cr3 a) (length out)
 unfolding readOut
 out-done s cr3 a out e = rw e
+
+-- what is read at the place to which the walk leads
+pub read-there : (s : Store) (cr3 a q : ℕ) (out o : List ℕ) → sound s ≡ true → q ≡ translated s cr3 a → o ≡ readInto s q out
+    → o ≡ readAt s (physical s cr3 a) (length out)
+read-there s cr3 a q out o h eq e = e ∙ read-of s q out h ∙ rw (eq ∙ translated-of s cr3 a h)
 
 pub read-empty : (s : Store) (p : ℕ) (out : List ℕ) → length out ≡ 0 → out ≡ readAt s p (length out)
 unfolding readAt tabulate
@@ -204,20 +210,10 @@ wrote-done s t p d e o et ee = record { answer = sym o; shown = ee ∙ sym (show
 pub wrote-empty : (s : Store) (p : ℕ) (d : List ℕ) → sound s ≡ true → length d ≡ 0 → Wrote s s p d Done Dark
 wrote-empty s p d e z = wrote-done s s p d Dark (write-empty s p (length d) e z) (rw z (unfold written in refl)) (shown-empty p d z)
 
--- copied at once into the slot of its page
-pub wrote-here : (s : Store) → Sound s → (p i : ℕ) (d b : List ℕ) (e : Shown) → slotOf (live s) p (length d) ≡ At i → length d ≤ 4096
-    → b ≡ filled (s .bytes) (4096 * i + p % 4096) (bytesOf d 0) (length d) → e ≡ shownAt p d
-    → Wrote s (storeOf (s .dir) b (s .used)) p d Done e
-wrote-here s h p i d b e q short eb ee =
-    let w = slot-at (live s) p (length d) i q in
-    wrote-done s (storeOf (s .dir) b (s .used)) p d e
-    (write-done s p (length d) (sound-true s h) short (omega (arith, present-none (live s) p (length d) i (w .1) (w .0))))
-    (part-whole s p i (length d) d b (w .1) (w .0) eb)
-    ee
-
 -- where the walk leads
-pub wrote-there : {s t : Store} {p q : ℕ} {d : List ℕ} {r : Answer} {e : Shown} → p ≡ q → Wrote s t p d r e → Wrote s t q d r e
-wrote-there h w = rw (sym h) w
+pub wrote-there : (c a : ℕ) {s t : Store} {q : ℕ} {d : List ℕ} {r : Answer} {e : Shown} → sound s ≡ true → q ≡ translated s c a
+    → Wrote s t q d r e → Wrote s t (physical s c a) d r e
+wrote-there c a h eq w = rw (sym (eq ∙ translated-of _ c a h)) w
 
 -- ---- a write's contract leaves no choice
 pub wrote-one : (s t t′ : Store) (p : ℕ) (d : List ℕ) (r r′ : Answer) (e e′ : Shown) → Wrote s t p d r e → Wrote s t′ p d r′ e′
@@ -229,3 +225,17 @@ wrote-one s t t′ p d r r′ e e′ w w′ =
 pub wrote-refused-for : (s : Store) (p : ℕ) (d : List ℕ) (r : Refusal) (w : Written) → RefusedFor w r (s .used)
     → writeOutcome s p (length d) ≡ refuses (numberOf r) → Wrote s (storeOf (s .dir) (s .bytes) (w .used)) p d (w .answer) (w .shown)
 wrote-refused-for s p d r w h e = rw (h .answer, h .count, h .dark) (wrote-refused s p d r e)
+
+-- what `mem_write_phys` did, as the answer of a write: done, or no room
+pub wrote-placed : (s t : Store) (p : ℕ) (d : List ℕ) (b : Bool) (e : Shown) → Sound s → length d ≤ 4096 → Stored s t p d b → b ≡ true
+    → e ≡ shownAt p d → Wrote s t p d Done e
+wrote-placed s t p d b e h short w q ee =
+    let x = sound-true s h in
+    wrote-done s t p d e (write-done s p (length d) x short (done-room s t p d b x w q)) (done-written s t p d b w q) ee
+
+pub wrote-lacking : (s t : Store) (p : ℕ) (d : List ℕ) (b : Bool) (w : Written) → Sound s → length d ≤ 4096 → Stored s t p d b → b ≡ false
+    → RefusedFor w NoRoom (t .used) → Wrote s (storeOf (t .dir) (t .bytes) (w .used)) p d (w .answer) (w .shown)
+wrote-lacking s t p d b w h short k q f =
+    let x = sound-true s h in
+    let o = write-full s p (length d) x short (lacks-room s t p d b x k q) in
+    rw (f .answer, f .count, f .dark) (rw (lacks-same s t p d b k q) (wrote-refused s p d NoRoom o))

@@ -12,14 +12,15 @@ use lib.ListN.{length, getD}
 use borrow.Author.Tests.{leb-true, leb-false, ltb-true, ltb-false}
 use Rattle.utils.specs.Outcome.{gives}
 use Rattle.store.specs.Store.{Store, sound, live, byteAt, readAt, written, touched, absentOf}
-use Rattle.mmu.specs.Walk.{physical, entriesRead, Alike}
-use Rattle.mmu.specs.Calls.{byteOf, writeOutcome, writeStore}
-use Rattle.mmu.specs.Parts.{Fits}
+use Rattle.walk.specs.Walk.{physical, entriesRead, Alike}
+use Rattle.writes.specs.Writes.{byteOf}
+use Rattle.writes.specs.Parts.{Fits}
+use Rattle.mmu.specs.Calls.{writeOutcome, writeStore}
 use Rattle.runs.proofs.Filled.{tab-ext, tab-getD}
 use Rattle.store.proofs.Read.{sound-true}
 use Rattle.store.proofs.Growth.{Still, still, written-in, written-out, written-count, written-number, written-keeps}
 use Rattle.mmu.proofs.Answers.{accepts-only, accepted-fits, store-done}
-use Rattle.mmu.proofs.Walked.{walk-same, entries-three}
+use Rattle.walk.proofs.Walked.{walk-same, entries-three}
 
 module _ (s : Store) (p : ℕ) (d : List ℕ) (e : writeOutcome s p (length d) ≡ gives []) where
   fits : Fits s p (length d)

@@ -1,4 +1,2 @@
-pub mod Turns
-pub mod Walked
 pub mod Answers
 pub mod Laws

@@ -6,10 +6,11 @@ use mathlib.Core.Bool.{Bool, cond, _&&_}
 use mathlib.Core.List.{List, [], _∷_}
 use Prim.Native.Nat.{ℕ, _%_}
 use lib.Dec.{leb, eqb}
-use lib.ListN.{length, getD}
+use lib.ListN.{length}
 use Rattle.utils.specs.Outcome.{Outcome, gives, refuses, accepted}
 use Rattle.store.specs.Store.{Store, sound, live, unused, readAt, written, touched, absentOf}
-use Rattle.mmu.specs.Walk.{physical}
+use Rattle.walk.specs.Walk.{physical}
+use Rattle.writes.specs.Writes.{byteOf}
 use Rattle.mmu.specs.declared.Refusal.{Refusal}
 use Rattle.mmu.specs.declared.Refusal.the-variants.{BadStore, TooLong, NoRoom}
 use Rattle.mmu.specs.declared.Answer.{Answer}
@@ -41,9 +42,6 @@ unfoldable pub writeOutcome : Store → ℕ → ℕ → Outcome ℕ
 writeOutcome s p n =
     cond (sound s) (cond (leb n 4096) (cond (leb (absentOf (live s) (touched p n)) (unused s)) (gives []) (refuses 6)) (refuses 5))
     (refuses 4)
-
-abbrev pub byteOf : List ℕ → ℕ → ℕ
-byteOf d k = getD d k 0
 
 -- the store after the bytes d are written at physical p; a refused write leaves it
 unfoldable pub writeStore : Store → ℕ → List ℕ → Store

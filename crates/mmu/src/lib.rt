@@ -1,28 +1,21 @@
-// Memory: reads and writes at an address, and the walk from an address to a physical one (src/mmu.rs of the Rust).
-// The crate knows numbers and lent slices only: `machine_state`, above it, owns CR3 and passes it in; below it, `store` says what the lent slices
-// are and searches the directory, `runs` moves bytes, `utils` knows words.
-// It carries document 01, "Addresses, pages, walk", but for the store itself and the page view, and refusals 4, 5 and 6 of "Refusal numbers". Each
-// public call takes every input, and its contract (specs/Calls.antt) fixes the answer, the count of slots in use, what is shown and every lent byte,
-// refused or not.
+// Memory: reads and writes at an address (src/mmu.rs of the Rust).
+// The crate knows numbers and lent slices only: `machine_state`, above it, owns CR3 and passes it in; below it, `walk` goes from an address to a
+// physical one and reads bytes there, `writes` writes them, and `store` says what the lent slices are.
+// It carries document 01, "Addresses, pages, walk", as far as a call's order of steps and what the screen shows go, and refusals 4, 5 and 6 of
+// "Refusal numbers". Each public call takes every input, and its contract (specs/Calls.antt) fixes the answer, the count of slots in use, what is
+// shown and every lent byte, refused or not.
 ghost use mathlib.Core.Path.{_≡_};
 ghost use Prim.Native.Nat.{_≤_};
 ghost use lib.ListN.{length};
 ghost use Rattle.store.specs.Store.{storeOf};
 ghost use Rattle.store.specs.Facts.{Sound};
-ghost use Rattle.mmu.specs.Walk.{physical};
+ghost use Rattle.walk.specs.Walk.{physical};
 ghost use Rattle.mmu.specs.Parts.{RefusedFor};
 ghost use Rattle.mmu.specs.Calls.{outcomeOf, readOutcome, readOut, shownAt, Wrote};
-
-mod run; // run.rt: reads and writes of physical bytes, page by page
-mod walk; // walk.rt: from an address to a physical one
-
-use run::mem_read_phys;
-use run::mem_write_phys;
-use store::Found;
-use store::count_absent;
 use store::is_store;
-use store::slot_of;
+use walk::mem_read_phys;
 use walk::translate_virtual_to_physical_address;
+use writes::mem_write_phys;
 
 // 01's refusals 4, 5 and 6.
 pub enum Refusal {
@@ -103,44 +96,20 @@ pub fn mem_write(
     write_at(p, data, dir, bytes, used)
 }
 
-// `data`, 1 to 4,096 bytes, goes to the bytes from physical p on. Within one page that has a slot it is copied at once, for no slot is wanted:
-// the directory is searched once.
+// `data`, 1 to 4,096 bytes, goes to the bytes from physical p on, or there is no room for it.
 fn write_at(p: u64, data: &[u8], dir: &mut [u64], bytes: &mut [u8], used: usize) -> Written
     requires { ⌜ Sound (storeOf (now dir) (now bytes) used) × (1 ≤ length (now «data»)) × (length (now «data») ≤ 4096) ⌝ }
     ensures { λ r. ⌜ Wrote (storeOf (now (dir .entry)) (now (bytes .entry)) used) (storeOf (now (dir .exit)) (now (bytes .exit)) (r .used))
         p (now («data» .entry)) (r .answer) (r .shown) ⌝ }
 {
-    let found = slot_of(p, data.len(), dir, used);
-    match found {
-        Found::At(i) => {
-            let off = (p % 4096) as usize;
-            runs::copy(bytes, 4096 * i + off, data, 0, data.len());
-            let shown = shown_at(p, data);
-            Written {
-                answer: Answer::Done,
-                used,
-                shown,
-            }
-        }
-        Found::Nothing => write_pages(p, data, dir, bytes, used),
+    let placed = mem_write_phys(p, data, dir, bytes, used);
+    if !placed.done {
+        return refused(Refusal::NoRoom, placed.used);
     }
-}
-
-// The same, page by page: the absent pages are counted first, for refusal 6.
-fn write_pages(p: u64, data: &[u8], dir: &mut [u64], bytes: &mut [u8], used: usize) -> Written
-    requires { ⌜ Sound (storeOf (now dir) (now bytes) used) × (1 ≤ length (now «data»)) × (length (now «data») ≤ 4096) ⌝ }
-    ensures { λ r. ⌜ Wrote (storeOf (now (dir .entry)) (now (bytes .entry)) used) (storeOf (now (dir .exit)) (now (bytes .exit)) (r .used))
-        p (now («data» .entry)) (r .answer) (r .shown) ⌝ }
-{
-    let absent = count_absent(p, data.len(), dir, used);
-    if dir.len() - used < absent {
-        return refused(Refusal::NoRoom, used);
-    }
-    let count = mem_write_phys(p, data, dir, bytes, used);
     let shown = shown_at(p, data);
     Written {
         answer: Answer::Done,
-        used: count,
+        used: placed.used,
         shown,
     }
 }

@@ -18,7 +18,7 @@ use Rattle.instruction_set.specs.declared.SomeScale.the-variants as by
 use Rattle.fields.specs.Parts.{memoryValue}
 use Rattle.mmu.specs.Calls.{readOutcome, readOut, writeOutcome, writeStore, shownOf}
 use Rattle.store.specs.Store.{Store, sound, live, unused, touched, absentOf}
-use Rattle.mmu.specs.Walk.{physical}
+use Rattle.walk.specs.Walk.{physical}
 use Rattle.machine_state.specs.Address.{addressOf}
 use Rattle.machine_state.specs.Answers.{word, After}
 use Rattle.machine_state.specs.Memory.{after, passed, cr3, rsp, below, readMemory, writeMemory, valued, withValue, loaded, storedAt}

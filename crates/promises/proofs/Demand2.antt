@@ -32,10 +32,10 @@ use Rattle.fields.specs.FlagBits.{boolBit, evenOnes, signIn}
 use Rattle.fields.proofs.FlagLaws.{flag-back}
 use Rattle.mmu.specs.Calls.{readOutcome, readOut, writeOutcome, writeStore}
 use Rattle.store.specs.Store.{Store, sound, byteAt}
-use Rattle.mmu.specs.Walk.{physical}
+use Rattle.walk.specs.Walk.{physical}
 use Rattle.mmu.proofs.Answers.{read-done, out-done, accepts-only, write-accepted}
 use Rattle.mmu.proofs.Laws.{law-out, law-byte, law-read, law-sound, law-walk, law-count}
-use Rattle.mmu.proofs.Walked.{physical-off}
+use Rattle.walk.proofs.Walked.{physical-off}
 use Rattle.machine_state.specs.Address.{addressOf}
 use Rattle.machine_state.specs.Answers.{word, After}
 use Rattle.machine_state.specs.Flagged.{setFlag, computeFlags}

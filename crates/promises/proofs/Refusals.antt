@@ -20,7 +20,7 @@ use Rattle.instruction_set.specs.declared.SomeRegister.the-variants as reg
 use Rattle.instruction_set.specs.declared.SomeScale.the-variants as by
 use Rattle.mmu.specs.Calls.{readOutcome, writeOutcome}
 use Rattle.store.specs.Store.{Store, sound, live, unused, touched, absentOf}
-use Rattle.mmu.specs.Walk.{physical}
+use Rattle.walk.specs.Walk.{physical}
 use Rattle.machine_state.specs.Address.{addressOf}
 use Rattle.machine_state.specs.Answers.{Value}
 use Rattle.machine_state.specs.Memory.{passed, cr3, rsp, below, readMemory, writeMemory, valued, loaded, storedAt, readOperand}

@@ -18,7 +18,7 @@ use Rattle.fields.specs.Parts.{readOf, writeOf}
 use Rattle.mmu.specs.Calls.{readOutcome, readOut, writeOutcome}
 use Rattle.store.specs.Store.{sound, seek, foundIn, byteAt, readAt, pagesFrom, touched, absentOf}
 use Rattle.runs.specs.Runs.{tabulate}
-use Rattle.mmu.specs.Walk.{entryPlace, wordAt, nextTable, walked, physical}
+use Rattle.walk.specs.Walk.{entryPlace, wordAt, nextTable, walked, physical}
 use Rattle.machine_state.specs.Address.{addressOf}
 use Rattle.machine_state.specs.Answers.{Value, word}
 use Rattle.machine_state.specs.Machine.{newMachine, readReg, writeReg}

@@ -21,7 +21,7 @@ use Rattle.instruction_set.specs.declared.Flags.{Flags}
 use Rattle.instruction_set.specs.declared.Register.{Register}
 use Rattle.fields.specs.FlagBits.{boolBit, evenOnes, signIn}
 use Rattle.store.specs.Store.{Store, live, touched, absentOf, byteAt}
-use Rattle.mmu.specs.Walk.{physical, entriesRead}
+use Rattle.walk.specs.Walk.{physical, entriesRead}
 use Rattle.machine_state.specs.Answers.{word}
 use Rattle.machine_state.specs.Flagged.{flagIn, setFlag}
 use Rattle.machine_state.specs.Machine.{readReg, writeReg}

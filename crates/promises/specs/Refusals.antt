@@ -12,7 +12,7 @@ use Rattle.instruction_set.specs.Operands.{noAddress, isImmediate, lacksScale}
 use Rattle.instruction_set.specs.Sizes.{bytesOf}
 use Rattle.instruction_set.specs.declared.InstructionArgument.{InstructionArgument}
 use Rattle.store.specs.Store.{Store, sound, live, unused, touched, absentOf}
-use Rattle.mmu.specs.Walk.{physical}
+use Rattle.walk.specs.Walk.{physical}
 use Rattle.machine_state.specs.Address.{addressOf}
 use Rattle.machine_state.specs.Memory.{rsp, cr3, below}
 use Rattle.machine_state.specs.declared.MachineState.{MachineState}

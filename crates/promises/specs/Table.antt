@@ -15,7 +15,7 @@ use Rattle.instruction_set.specs.declared.SomeRegister.the-variants as reg
 use Rattle.instruction_set.specs.declared.SomeScale.the-variants as by
 use Rattle.fields.specs.FlagBits.{boolBit}
 use Rattle.store.specs.Store.{Store, storeOf, byteAt}
-use Rattle.mmu.specs.Walk.{physical}
+use Rattle.walk.specs.Walk.{physical}
 use Rattle.machine_state.specs.Address.{addressOf}
 use Rattle.machine_state.specs.Answers.{Value, word, truth, After}
 use Rattle.machine_state.specs.Flagged.{flagIn, setFlag, computeFlags}

@@ -15,7 +15,7 @@ use Rattle.instruction_set.specs.declared.Register.the-variants.{RSP}
 use Rattle.fields.specs.Parts.{memoryValue}
 use Rattle.mmu.specs.Calls.{readOutcome, readOut, writeOutcome, writeStore, shownOf}
 use Rattle.store.specs.Store.{Store}
-use Rattle.mmu.specs.Walk.{physical}
+use Rattle.walk.specs.Walk.{physical}
 use Rattle.machine_state.specs.Answers.{Value, After}
 use Rattle.machine_state.specs.Memory.{cr3 as cr3Of, withRsp, after, passed, eventShown, readMemory, writeMemory, valued, loaded}
 use Rattle.machine_state.specs.Memory.{storedAt, atAddress, moved}

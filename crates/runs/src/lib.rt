@@ -1,8 +1,8 @@
 // Runs of bytes, and words among them, within lent slices: a copy, a fill, words read and written, low byte first. Each function takes every place:
 // past the end it reads 0, or writes nothing and says so. Below is utils, which knows one word's bytes. Above are store, whose definitions speak of
-// runs, mmu, which moves bytes between pages and buffers, and records and session, which move words. Document 01 speaks of runs in "Addresses, pages,
-// walk": a read fills a buffer, a write goes to the bytes from a place on, a slot is cleared. specs/Runs.antt says what a run leaves (`filled`), and
-// proofs/Filled.antt has its laws.
+// runs, walk and writes, which move bytes between pages and buffers, and records and session, which move words. Document 01 speaks of runs in
+// "Addresses, pages, walk": a read fills a buffer, a write goes to the bytes from a place on, a slot is cleared. specs/Runs.antt says what a run
+// leaves (`filled`), and proofs/Filled.antt has its laws.
 ghost use mathlib.Core.Path.{_≡_};
 ghost use mathlib.Core.Bool.{_&&_};
 ghost use Prim.Native.Nat.{ℕ, _+_, _*_, _≤_};

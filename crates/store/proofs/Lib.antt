@@ -5,3 +5,4 @@ pub mod Read
 pub mod Slot
 pub mod Growth
 pub mod View
+pub mod Parts

@@ -1,6 +1,6 @@
--- What only laws and the contracts of private functions cite: a reader of the public contracts needs none of it.
+-- What only laws, loops and the contracts of private functions cite, here and above: a reader of the public contracts needs none of it.
 use mathlib.Core.Path.{_≡_}
-use Prim.Native.Nat.{ℕ, _+_, _*_, _≤_}
+use Prim.Native.Nat.{ℕ, _+_, _*_, _≤_, _<_}
 use lib.ListN.{length}
 use Rattle.store.specs.Store.{Store, live, foundIn, lack}
 
@@ -17,3 +17,16 @@ Room s g = s .used + lack (foundIn (live s) g) ≤ length (s .dir)
 -- what a cleared slot is `filled` from
 abbrev pub noBytes : ℕ → ℕ
 noBytes k = 0
+
+-- n bytes are the part of an access that lies in a page: from off to the page's end, or all that are left
+pub record Part (off left n : ℕ) : Type 0 where
+  pub some : 1 ≤ n
+  pub inside : off + n ≤ 4096
+  pub within : n ≤ left
+  pub full : n < left → off + n ≡ 4096
+
+-- where an access of len bytes from physical p on stands when done of them are moved: at byte off of page g, if any are left
+pub record Reached (p len g off done : ℕ) : Type 0 where
+  pub within : done ≤ len
+  pub inside : off < 4096
+  pub place : done < len → 4096 * g + off ≡ p + done

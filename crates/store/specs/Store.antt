@@ -104,3 +104,7 @@ lack Nothing = 1
 unfoldable pub absentOf : List ℕ → List ℕ → ℕ
 absentOf l [] = 0
 absentOf l (g ∷ gs) = lack (foundIn l g) + absentOf l gs
+
+-- how many of the bytes that are left of an access lie in the page it has reached, from byte off on: to the page's end, or all of them
+unfoldable pub partLength : ℕ → ℕ → ℕ
+partLength off left = cond (ltb left (4096 - off)) left (4096 - off)

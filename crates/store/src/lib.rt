@@ -1,12 +1,13 @@
 // The store of pages: what it is, the search of its directory, the absent pages that an access touches, the view of one page, and its laws. A store is
-// lent slices and a count, so these are functions on slices. Below are utils and runs, which know words and runs of bytes; above are mmu, whose reads,
-// writes and walk go through what the search finds, and session, which shows a page. It carries document 01, "Addresses, pages, walk", from "The store
-// is a lent directory" to "without wrap" and its last sentence, the page view, and the tests of refusal 4. specs/Store.antt has the store as a value:
-// its bytes by physical address, and what writing bytes makes of it; proofs/ has the laws, which name no function of mmu.
+// lent slices and a count, so these are functions on slices. Below are utils and runs, which know words and runs of bytes; above are walk and
+// writes, whose reads and writes go page by page through what the search finds, mmu, which asks first whether it is a store, and session, which shows
+// a page. It carries document 01, "Addresses, pages, walk", from "The store is a lent directory" to "without wrap" and its last sentence, the page
+// view, and the tests of refusal 4. specs/Store.antt has the store as a value: its bytes by physical address, and what writing bytes makes of it;
+// proofs/ has the laws, which name no function of the crates above.
 ghost use mathlib.Core.Path.{_≡_};
 ghost use Prim.Native.Nat.{_+_, _≤_, _<_};
 ghost use lib.ListN.{length, take};
-ghost use Rattle.store.specs.Store.{storeOf, sound, seek, foundIn, slotOf, lack, touched, absentOf};
+ghost use Rattle.store.specs.Store.{storeOf, sound, seek, foundIn, slotOf, lack, touched, absentOf, partLength};
 ghost use Rattle.store.specs.View.{zeroPage, viewOf};
 
 // The slot of a page.
@@ -128,6 +129,20 @@ pub fn count_absent(p: u64, n: usize, dir: &[u64], used: usize) -> usize
         left -= 1;
     }
     absent
+}
+
+// How many of the bytes that are left of an access lie in the page it has reached: to the page's end, or all of them.
+pub fn part_length(off: usize, left: usize) -> usize
+    ensures { λ r. ⌜ r ≡ partLength off left ⌝ }
+{
+    if 4096 < off {
+        return 0;
+    }
+    let rest = 4096 - off;
+    if left < rest {
+        return left;
+    }
+    rest
 }
 
 // Whether z is 4,096 zeros.

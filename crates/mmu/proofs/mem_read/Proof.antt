@@ -1,6 +1,5 @@
 -- `mem_read` owes what `readOutcome` and `readOut` say: one law of Answers for each of its returns.
-use Rattle.mmu.proofs.Answers.{read-bad, read-long, read-done, read-empty, out-refused, out-done}
-use Rattle.store.proofs.Read.{sound-facts}
+use Rattle.mmu.proofs.Answers.{read-bad, read-long, read-done, read-there, read-empty, out-refused, out-done}
 use borrow.Author.Tests.{not-true, not-false}
 use native.Mathlib.Omega.{arith}
 use lib.ListN.{length}
@@ -36,19 +35,6 @@ returns-3 c =
           ∙ sym (out-done _ _ _ _ o),
     )
 
-translate-virtual-to-physical-address-requires : tie.Need-translate-virtual-to-physical-address-requires
-translate-virtual-to-physical-address-requires c κs =
-    let if1 = c .before .before in
-    let is-store = if1 .before in
-    sound-facts _ (sym (is-store .is-store .ensures) ∙ not-false _ (if1 .if1 .left))
-
-mem-read-phys-requires : tie.Need-mem-read-phys-requires
-mem-read-phys-requires c κs =
-    let if3 = c .before .before in
-    let if1 = if3 .before .before in
-    let is-store = if1 .before in
-    (sound-facts _ (sym (is-store .is-store .ensures) ∙ not-false _ (if1 .if1 .left)), omega (arith, if3 .if3 .left))
-
 returns-4 : tie.Need-returns-4
 returns-4 c =
     let mem-read-phys = c .before .before in
@@ -57,17 +43,16 @@ returns-4 c =
     let if1 = if2 .before in
     let is-store = if1 .before in
     let start = is-store .before .before .before .before in
-    let o =
-    read-done _ (length (start .args .out .now)) (sym (is-store .is-store .ensures) ∙ not-false _ (if1 .if1 .left))
-    (omega (arith, if2 .if2 .left)) in (
+    let h = sym (is-store .is-store .ensures) ∙ not-false _ (if1 .if1 .left) in
+    let o = read-done _ (length (start .args .out .now)) h (omega (arith, if2 .if2 .left)) in (
       sym o,
-      mem-read-phys .mem-read-phys .ensures
-          ∙ rw (translate-virtual-to-physical-address .translate-virtual-to-physical-address .ensures)
-          (sym (out-done _ _ _ _ o)),
+      read-there _ _ _ _ (start .args .out .now) _ h
+          (translate-virtual-to-physical-address .translate-virtual-to-physical-address .ensures) (mem-read-phys .mem-read-phys .ensures .1)
+          ∙ sym (out-done _ _ _ _ o),
     )
 
 pub mem-read-spec : {M : Type 1} → statement M
 mem-read-spec =
     tie.close
-    (tie.spec (λ c κs. search needs) returns returns-2 returns-3 translate-virtual-to-physical-address-requires
-    mem-read-phys-requires (λ c. search needs) returns-4)
+    (tie.spec (λ c κs. search needs) returns returns-2 returns-3 (λ c κs. search needs)
+    (λ c κs. search needs) (λ c. search needs) returns-4)

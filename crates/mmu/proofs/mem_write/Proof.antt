@@ -33,12 +33,6 @@ returns-3 c =
     wrote-empty _ _ (start .args .«data» .now) (sym (is-store .is-store .ensures) ∙ not-false _ (if1 .if1 .left))
     (omega (arith, c .if3 .taken, c .before .if2 .left))
 
-translate-virtual-to-physical-address-requires : tie.Need-translate-virtual-to-physical-address-requires
-translate-virtual-to-physical-address-requires c κs =
-    let if1 = c .before .before .before .before in
-    let is-store = if1 .before in
-    sound-facts _ (sym (is-store .is-store .ensures) ∙ not-false _ (if1 .if1 .left))
-
 write-at-requires : tie.Need-write-at-requires
 write-at-requires c κs =
     let if3 = c .before .before .before .before .before in
@@ -54,13 +48,14 @@ returns-4 : tie.Need-returns-4
 returns-4 c =
     let write-at = c .before .before .before .before in
     let translate-virtual-to-physical-address = write-at .before .before .before in
-    wrote-there (translate-virtual-to-physical-address .translate-virtual-to-physical-address .ensures)
-    (write-at .write-at .ensures)
+    let if1 = translate-virtual-to-physical-address .before .before .before .before .before in
+    wrote-there _ _ (sym (if1 .before .is-store .ensures) ∙ not-false _ (if1 .if1 .left))
+    (translate-virtual-to-physical-address .translate-virtual-to-physical-address .ensures) (write-at .write-at .ensures)
 
 pub mem-write-spec : {M : Type 1} → statement M
 mem-write-spec =
     tie.close
     (tie.spec (λ c κs. search needs) (λ c κs. search needs) (λ c. search needs) (λ c. search needs) returns
     (λ c κs. search needs) (λ c. search needs) (λ c. search needs) returns-2 (λ c. search needs) (λ c. search needs)
-    returns-3 translate-virtual-to-physical-address-requires write-at-requires (λ c. search needs) (λ c. search needs)
+    returns-3 (λ c κs. search needs) write-at-requires (λ c. search needs) (λ c. search needs)
     returns-4)

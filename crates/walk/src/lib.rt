@@ -1,0 +1,46 @@
+// Memory as it is read: the bytes from a physical address on, page by page, and the walk from an address to a physical one (src/mmu.rs of the Rust).
+// Below are utils, which knows words, runs, which moves bytes, and store, which searches the directory; above is mmu, whose calls check what is lent,
+// translate an access's first byte here and read its bytes here. It carries document 01, "Addresses, pages, walk": the walk, "Byte k of an access at
+// physical p is byte p + k without wrap", and "An absent page reads as zeros and reading takes no slot". Both functions take every input: what is no
+// store is not read. specs/Walk.antt has the walk as a definition.
+ghost use mathlib.Core.Path.{_≡_};
+ghost use Rattle.store.specs.Store.{storeOf, sound};
+ghost use Rattle.walk.specs.Walk.{translated, readInto};
+
+mod read; // read.rt: reads of physical bytes, page by page
+mod walk; // walk.rt: three levels down, the same step at each
+
+use read::read_pages;
+use store::is_store;
+use walk::walk;
+
+// The physical address of an access's first byte; 0 where the lent slices are no store. The first table is cr3 as it stands.
+pub fn translate_virtual_to_physical_address(
+    cr3: u64,
+    address: u64,
+    dir: &[u64],
+    bytes: &[u8],
+    used: usize,
+) -> u64
+    ensures { λ r. ⌜ r ≡ translated (storeOf (now (dir .entry)) (now (bytes .entry)) used) cr3 address ⌝ }
+{
+    if !is_store(dir, bytes, used) {
+        return 0;
+    }
+    if cr3 == 0 {
+        return address;
+    }
+    walk(3, cr3, address, dir, bytes, used)
+}
+
+// out becomes the bytes from physical p on; where the lent slices are no store it stays, and the answer is false.
+pub fn mem_read_phys(p: u64, out: &mut [u8], dir: &[u64], bytes: &[u8], used: usize) -> bool
+    ensures { λ r. ⌜ (r ≡ sound (storeOf (now (dir .entry)) (now (bytes .entry)) used))
+        × (now (out .exit) ≡ readInto (storeOf (now (dir .entry)) (now (bytes .entry)) used) p (now (out .entry))) ⌝ }
+{
+    if !is_store(dir, bytes, used) {
+        return false;
+    }
+    read_pages(p, out, dir, bytes, used);
+    true
+}

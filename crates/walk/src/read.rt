@@ -1,0 +1,54 @@
+// Reads of the bytes from a physical address on, page by page, as the Rust's loop goes, for as many pages as there are.
+// The page number only grows: after page 2^52 - 1 comes page 2^52 (01: "without wrap").
+ghost use mathlib.Core.Path.{_≡_};
+ghost use Prim.Native.Nat.{_+_, _*_, _≤_};
+ghost use lib.ListN.{length};
+ghost use Rattle.runs.specs.Runs.{filled};
+ghost use Rattle.store.specs.Store.{storeOf, bytesFrom, readAt};
+ghost use Rattle.store.specs.Facts.{Sound};
+use store::Found;
+use store::find_page;
+use store::part_length;
+
+// n bytes of one page, from off on, go to out from `at` on; an absent page reads as zeros and takes no slot.
+fn read_part(
+    page: u64,
+    off: usize,
+    out: &mut [u8],
+    at: usize,
+    n: usize,
+    dir: &[u64],
+    bytes: &[u8],
+    used: usize,
+)
+    requires { ⌜ Sound (storeOf (now dir) (now bytes) used) × (off + n ≤ 4096) × (at + n ≤ length (now out)) ⌝ }
+    ensures { λ _. ⌜ now (out .exit)
+        ≡ filled (now (out .entry)) at (bytesFrom (storeOf (now (dir .entry)) (now (bytes .entry)) used) (4096 * page + off)) n ⌝ }
+{
+    let found = find_page(dir, used, page);
+    match found {
+        Found::At(i) => {
+            runs::copy(out, at, bytes, 4096 * i + off, n);
+        }
+        Found::Nothing => {
+            runs::fill(out, at, n, 0);
+        }
+    }
+}
+
+// out becomes the bytes from physical p on.
+pub(crate) fn read_pages(p: u64, out: &mut [u8], dir: &[u64], bytes: &[u8], used: usize)
+    requires { ⌜ Sound (storeOf (now dir) (now bytes) used) ⌝ }
+    ensures { λ _. ⌜ now (out .exit) ≡ readAt (storeOf (now (dir .entry)) (now (bytes .entry)) used) p (length (now (out .entry))) ⌝ }
+{
+    let mut page = p / 4096;
+    let mut off = (p % 4096) as usize;
+    let mut done: usize = 0;
+    while done < out.len() {
+        let n = part_length(off, out.len() - done);
+        read_part(page, off, out, done, n, dir, bytes, used);
+        page += 1;
+        off = 0;
+        done += n;
+    }
+}

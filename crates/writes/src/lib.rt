@@ -1,0 +1,60 @@
+// Memory as it is written: bytes go to a physical address, page by page, and each absent page takes a slot (src/mmu.rs of the Rust). Below are
+// runs, which moves bytes, and store, which searches the directory and counts absent pages; above is mmu, whose write checks what is lent and
+// translates the address first. It carries document 01, "Addresses, pages, walk": "A write takes a slot for each absent page it touches, lowest page
+// first, at the end of the slots in use, and the slot is cleared before bytes go in", "without wrap", and the test of refusal 6. Its one public
+// function takes every input, and writes all or nothing. specs/Writes.antt says what it leaves.
+ghost use mathlib.Core.Path.{_≡_};
+ghost use Rattle.store.specs.Store.{storeOf};
+ghost use Rattle.store.specs.Facts.{Sound};
+ghost use Rattle.writes.specs.Writes.{Stored};
+
+mod pages; // pages.rt: writes of physical bytes, page by page
+
+use pages::write_pages;
+use store::Found;
+use store::count_absent;
+use store::is_store;
+use store::slot_of;
+
+// Whether the bytes were written, and the slots in use afterwards.
+pub struct Placed {
+    pub done: bool,
+    pub used: usize,
+}
+
+// data goes to the bytes from physical p on, if the lent slices are a store and have a slot for each absent page. Within one page that has a slot
+// it is copied at once, for no slot is wanted: the directory is searched once.
+pub fn mem_write_phys(p: u64, data: &[u8], dir: &mut [u64], bytes: &mut [u8], used: usize) -> Placed
+    ensures { λ r. ⌜ Stored (storeOf (now (dir .entry)) (now (bytes .entry)) used) (storeOf (now (dir .exit)) (now (bytes .exit)) (r .used))
+        p (now («data» .entry)) (r .done) ⌝ }
+{
+    if !is_store(dir, bytes, used) {
+        return Placed { done: false, used };
+    }
+    let found = slot_of(p, data.len(), dir, used);
+    match found {
+        Found::At(i) => {
+            let off = (p % 4096) as usize;
+            runs::copy(bytes, 4096 * i + off, data, 0, data.len());
+            Placed { done: true, used }
+        }
+        Found::Nothing => write_counted(p, data, dir, bytes, used),
+    }
+}
+
+// The same, page by page: the absent pages are counted first.
+fn write_counted(p: u64, data: &[u8], dir: &mut [u64], bytes: &mut [u8], used: usize) -> Placed
+    requires { ⌜ Sound (storeOf (now dir) (now bytes) used) ⌝ }
+    ensures { λ r. ⌜ Stored (storeOf (now (dir .entry)) (now (bytes .entry)) used) (storeOf (now (dir .exit)) (now (bytes .exit)) (r .used))
+        p (now («data» .entry)) (r .done) ⌝ }
+{
+    let absent = count_absent(p, data.len(), dir, used);
+    if dir.len() - used < absent {
+        return Placed { done: false, used };
+    }
+    let count = write_pages(p, data, dir, bytes, used);
+    Placed {
+        done: true,
+        used: count,
+    }
+}
