@@ -18,4 +18,19 @@ struct ruonasvel_machine {
    else may use it meanwhile. */
 bool ruonasvel_set_flag(struct ruonasvel_machine *machine, uint64_t flag, uint64_t value);
 
+/* What an operation answers: `known` is 1 where both its numbers name something, else 0; `answers` is 1 where `value` is an answer, else 0 and
+   `value` is 0. */
+struct ruonasvel_arithmetic_answer {
+    uint64_t known;
+    uint64_t answers;
+    uint64_t value;
+};
+
+/* Operation 0 is add, 1 add with carry, 2 subtract, 3 subtract with borrow, 4 compare; size 0 is 64 bits, 1 is 32, 2 is 16, 3 is 8. `first` and
+   `second` are any words, of which the low bits of the size are taken; 1 and 3 also take Carry from rflags. Carry, Parity, Zero, Sign and Overflow in
+   rflags become those of the result; every other bit of rflags and every other word of the machine stays, Direction and Auxiliary carry too. The
+   answer is the result, sign-extended from the size; compare answers nothing. Any other number for the operation or the size leaves the machine as
+   it is. `machine` points to a machine, which is lent for the call: nothing else may use it meanwhile. */
+struct ruonasvel_arithmetic_answer ruonasvel_arithmetic(struct ruonasvel_machine *machine, uint64_t operation, uint64_t size, uint64_t first, uint64_t second);
+
 #endif

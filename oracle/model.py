@@ -1,12 +1,16 @@
-"""What refusals.py, texts.py and report.py share: records, operands, the registers of 01's table, and a small model of the machine and its store.
-It is written from 01 and shares nothing with the Rattle code or with the Rust."""
+"""What refusals.py, texts.py, report.py and carries.py share: records, operands, the registers of 01's table, and a small model of the machine and its
+store. It is written from 01 and shares nothing with the Rattle code or with the Rust; arithmetic.py has the rules of 02, No. 2."""
 import struct
 
-READ, WRITE, ADDRESS, PUSH, POP, READ_MEMORY, WRITE_MEMORY, TEST_FLAG, SET_FLAG, COMPUTE, READ_BYTE = range(1, 12)
+import arithmetic
+from arithmetic import signed
+
+READ, WRITE, ADDRESS, PUSH, POP, READ_MEMORY, WRITE_MEMORY, TEST_FLAG, SET_FLAG, COMPUTE, READ_BYTE, ARITHMETIC = range(1, 13)
 VIEW, RESET, LOAD, SHOW_MACHINE, SHOW_DIRECTORY, SHOW_BYTES = 20, 24, 25, 26, 27, 28
 TOP = 1 << 64
-RAX, RSP, RBP, CR3 = 0, 4, 5, 19
+RAX, RSP, RBP, CR3, RFLAGS = 0, 4, 5, 19, 22
 NO_OPERAND = (0, 0, 0, 0, 0)
+NOT_LOOKED_AT = (7, 999, TOP - 1, 300, 5)  # names no operand: for records that have none
 PARENTS = "rax rbx rcx rdx rsp rbp rsi rdi r8 r9 r10 r11 r12 r13 r14 r15 rip cr0 cr2 cr3 cr4 cr8".split()
 
 
@@ -41,11 +45,6 @@ def immediate(v):
 def at(displacement, base=None, index=None, scale=None):
     plus = lambda x: 0 if x is None else x + 1
     return (3, plus(base), plus(index), plus(scale), displacement % TOP)
-
-
-def signed(v, bits):
-    v %= 1 << bits
-    return v - (1 << bits) if v >> bits - 1 else v
 
 
 class Refused(Exception):
@@ -113,6 +112,19 @@ class Model:
         v = int.from_bytes(self.read(self.address(op), n), "little")
         return (v if size == 3 else signed(v, 8 * n)) % TOP
 
+    def put_flag(self, flag, yes):
+        self.words[RFLAGS] = arithmetic.put(self.words[RFLAGS], flag, yes)
+
+    def compute_flags(self, result, size):
+        self.put_flag(arithmetic.PARITY, arithmetic.even_ones(result))
+        self.put_flag(arithmetic.ZERO, result == 0)  # whatever the size
+        self.put_flag(arithmetic.SIGN, signed(result, 64 >> size) < 0)
+
+    def operate(self, operation, size, first, second):
+        """The answer's shape and value."""
+        result, self.words[RFLAGS] = arithmetic.operate(operation, 64 >> size, first, second, self.words[RFLAGS])
+        return (0, 0) if result is None else (1, result % TOP)
+
 
 class Stream:
     def __init__(self, calls, answers):
@@ -155,6 +167,14 @@ class Stream:
                 lent = m.read(a, b)
             elif kind == READ_BYTE:
                 shape, value = 1, m.read(a, 1)[0]
+            elif kind == TEST_FLAG:
+                shape, value = 2, int(m.words[RFLAGS] & arithmetic.FLAGS[a] != 0)
+            elif kind == SET_FLAG:
+                m.put_flag(arithmetic.FLAGS[a], b)
+            elif kind == COMPUTE:
+                m.compute_flags(a, size)
+            elif kind == ARITHMETIC:
+                shape, value = m.operate(c, size, a, b)
             else:
                 to, data = a, block
                 if kind == WRITE:
@@ -170,6 +190,7 @@ class Stream:
             refusal = why.args[0]
         self.put([kind, len(block), size, a, b, c, *op], block, [refusal, shape, value, *event], lent, m.used)
         self.counted += 1
+        return value
 
     def view(self, page, start=0, n=8, zeros=4096, last=0):
         m = self.m
@@ -183,9 +204,12 @@ class Stream:
         self.put([VIEW, 0, 0, page, start, n, 0, zeros, 0, 0, last], b"", [0 if good else 4, 0, 0, 0, 0, 0], shown, m.used)
         self.counted += 1
 
+    def show_machine(self):
+        self.put([SHOW_MACHINE], b"", [0] * 6, struct.pack("<25Q", *self.m.words), self.m.used)
+
     def show(self):
         m = self.m
-        self.put([SHOW_MACHINE], b"", [0] * 6, struct.pack("<25Q", *m.words), m.used)
+        self.show_machine()
         self.put([SHOW_DIRECTORY], b"", [0] * 6, struct.pack("<%dQ" % len(m.directory), *m.directory), m.used)
         for where in range(0, len(m.bytes), 4096):
             n = min(24, len(m.bytes) - where)

@@ -1,12 +1,13 @@
 #!/usr/bin/env python3
 """refusals.py CALLS ANSWERS [sample]: appends to both files the calls that the Rust has no answer to, with the answers that 01 gives them: accesses
-of no bytes, refusals 4, 5 and 6 and their order, the page view, directories with numbers twice or past 2^52; then, by texts.py, report.py and
-readback.py, refusal 7, the exposed report and refusal 12, operand text read back and refusal 13. The expected answers come from models that are
-written from 01 and 02 and share nothing with the Rattle code or with the Rust. With `sample` there are fewer of these last three, for the stored
-sample. Prints the number of calls."""
+of no bytes, refusals 4, 5 and 6 and their order, the page view, directories with numbers twice or past 2^52; then, by texts.py, report.py,
+readback.py and carries.py, refusal 7, the exposed report and refusal 12, operand text read back and refusal 13, arithmetic. The expected answers come
+from models that are written from 01 and 02 and share nothing with the Rattle code or with the Rust. With `sample` there are fewer of these last four,
+for the stored sample. Prints the number of calls."""
 import sys
 
 sys.dont_write_bytecode = True
+import carries
 import readback
 import report
 import texts
@@ -91,6 +92,7 @@ def main():
         texts.calls(s, sample)
         report.calls(s, sample)
         readback.calls(s, sample)
+        carries.calls(s, sample)
         print(s.counted)
 
 

@@ -1,9 +1,10 @@
 """The exposed report, which the Rust does not have: expected are the rows of 01, "Places and calls", by the model below. It goes forwards, as the
 definition does: a place is exposed if some call reads it and no earlier call has rewritten it."""
+from arithmetic import ADD, ADD_WITH_CARRY, COMPARE, OPERATIONS, READ_CARRY, SUBTRACT_WITH_BORROW
 from model import *
 
 REPORT, PLACES, MOST = 40, 182, 64
-PARITY, ZERO, SIGN = 177, 178, 179
+CARRY, PARITY, ZERO, SIGN, DIRECTION, OVERFLOW = range(176, 182)
 RSP_LANES = set(range(8 * RSP, 8 * RSP + 8))
 CR3_LANES = set(range(8 * CR3, 8 * CR3 + 8))
 
@@ -13,6 +14,10 @@ def entry(kind, size=0, a=0, b=0, op=NO_OPERAND):
     size = size if kind in (READ, WRITE, COMPUTE) else 0
     a = 0 if kind in (READ, ADDRESS, PUSH, POP) else a
     return (kind, 0, size, a, b if kind == SET_FLAG else 0, 0, *op, *NO_OPERAND)
+
+
+def operate(operation, size=3, first=0xFF, second=1):
+    return (ARITHMETIC, 0, size, first, second, operation, *NOT_LOOKED_AT, *NOT_LOOKED_AT)
 
 
 def lanes(number, how_many):
@@ -31,6 +36,8 @@ def reads(call):
         return CR3_LANES
     if kind == TEST_FLAG:
         return {176 + call[3]}
+    if kind == ARITHMETIC:
+        return {CARRY} if call[5] in READ_CARRY else set()
     if kind in (READ, WRITE, ADDRESS) and op[0] == 3:
         return lanes(op[1], READ) | lanes(op[2], READ) | (set() if kind == ADDRESS else CR3_LANES)
     return lanes(op[1], READ) if kind == READ and op[0] == 2 else set()
@@ -44,6 +51,8 @@ def rewrites(call):
         return {176 + call[3]}
     if kind == COMPUTE:
         return {PARITY, ZERO, SIGN}
+    if kind == ARITHMETIC:
+        return {CARRY, PARITY, ZERO, SIGN, OVERFLOW}
     return lanes(op[1], WRITE) if kind == WRITE and op[0] == 2 else set()
 
 
@@ -90,6 +99,8 @@ def singles():
         yield entry(SET_FLAG, a=flag, b=1)
     for size in range(4):
         yield entry(COMPUTE, size, 1 << 63)
+        for operation in OPERATIONS:
+            yield operate(operation, size, TOP - 1, 1 << 63)
 
 
 def groups():
@@ -104,6 +115,11 @@ def groups():
     yield [entry(COMPUTE, 3, 1)] + [entry(TEST_FLAG, a=f) for f in flags]
     yield [entry(SET_FLAG, a=f) for f in flags if f % 2] + [entry(TEST_FLAG, a=f) for f in flags]
     yield [entry(TEST_FLAG, a=1), entry(COMPUTE, 0, 1), entry(TEST_FLAG, a=2), entry(SET_FLAG, a=5, b=1), entry(TEST_FLAG, a=5)]
+    for operation in OPERATIONS:
+        yield [operate(operation)] + [entry(TEST_FLAG, a=f) for f in flags]
+        yield [entry(SET_FLAG, a=0), operate(operation), entry(TEST_FLAG, a=0), entry(TEST_FLAG, a=4)]
+    yield [operate(ADD), *leave_carry(), operate(ADD_WITH_CARRY)]
+    yield [*leave_carry(), operate(ADD_WITH_CARRY)]
     for kind in (PUSH, POP, READ_MEMORY, WRITE_MEMORY):
         yield [entry(kind)]
     yield [entry(READ, 3, op=at(0, base=NUMBERS["bl"], index=NUMBERS["ch"], scale=1))]
@@ -113,8 +129,16 @@ def groups():
     yield [entry(WRITE, 0, 1, op=at(0, base=NUMBERS["r8w"], index=NUMBERS["ah"])), on(WRITE, "ax"), on(WRITE, "r8d"), on(READ, "r8"), on(READ, "rax")]
 
 
+def leave_carry():
+    """A call of each other kind that does not rewrite Carry."""
+    return [entry(SET_FLAG, a=f) for f in range(1, 6)] + [
+        entry(COMPUTE, 3), entry(TEST_FLAG, a=0), entry(PUSH), entry(POP), entry(READ_MEMORY), entry(WRITE_MEMORY), on(READ, "ax"), on(WRITE, "eax"),
+        on(ADDRESS, "rax"), entry(WRITE, 0, 1, op=immediate(1)), entry(READ, 0, op=at(8, base=RBP)), entry(WRITE, 0, 1, op=at(8, index=RBP))]
+
+
 def pairs():
-    """One name of a register is written and another read, over all names with the same parent; a flag set and another tested."""
+    """One name of a register is written and another read, over all names with the same parent; a flag set and another tested; arithmetic after each
+    call that may or may not rewrite its Carry, and before each test of a flag."""
     for n, row in enumerate(REGISTERS):
         for m, other in enumerate(REGISTERS):
             if row[1] == other[1]:
@@ -123,6 +147,13 @@ def pairs():
     for flag in range(6):
         for other in range(6):
             yield [entry(SET_FLAG, a=flag, b=other % 2), entry(TEST_FLAG, a=other)]
+    for operation in OPERATIONS:
+        for call in [operate(other, other % 4) for other in OPERATIONS] + [entry(SET_FLAG, a=0)] + leave_carry():
+            yield [call, operate(operation)]
+            yield [operate(operation), call, operate(ADD_WITH_CARRY), operate(SUBTRACT_WITH_BORROW)]
+        for flag in range(6):
+            yield [operate(operation), entry(TEST_FLAG, a=flag)]
+            yield [entry(TEST_FLAG, a=flag), operate(operation), entry(TEST_FLAG, a=5 - flag)]
 
 
 class Rng:
@@ -152,7 +183,10 @@ def drawn(g, n):
     maybe = lambda: None if g.below(3) == 0 else some()
 
     def one():
-        kind = g.choice([READ, READ, WRITE, WRITE, WRITE, ADDRESS, PUSH, POP, READ_MEMORY, WRITE_MEMORY, TEST_FLAG, TEST_FLAG, SET_FLAG, COMPUTE])
+        kind = g.choice([READ, READ, WRITE, WRITE, WRITE, ADDRESS, PUSH, POP, READ_MEMORY, WRITE_MEMORY, TEST_FLAG, TEST_FLAG, SET_FLAG, COMPUTE,
+                         ARITHMETIC])
+        if kind == ARITHMETIC:
+            return operate(g.choice(OPERATIONS), g.below(4), g.next(), g.next())
         if kind in (TEST_FLAG, SET_FLAG):
             return entry(kind, a=g.below(6), b=g.below(2))
         if kind not in (READ, WRITE, ADDRESS):
@@ -167,12 +201,17 @@ def drawn(g, n):
 def calls(s, sample):
     s.reset([0] * 25, [0], 4096, 0, 0xEE)
     g = Rng(20260101)
-    # 01's table
+    # 01's table, then what 02, No. 2 says of Carry
     examples = [
         ([on(WRITE, "ax"), on(READ, "eax")], {2, 3}),
         ([on(WRITE, "eax"), on(READ, "rax")], set()),
         ([entry(PUSH), on(READ, "spl")], set(range(32, 40)) | set(range(152, 160))),
         ([], set()),
+        ([operate(ADD), operate(ADD_WITH_CARRY)], set()),
+        ([operate(ADD_WITH_CARRY), operate(ADD)], {CARRY}),
+        ([operate(SUBTRACT_WITH_BORROW, 0)], {CARRY}),
+        ([entry(COMPUTE), entry(SET_FLAG, a=5), operate(ADD_WITH_CARRY, 1), operate(ADD_WITH_CARRY, 1)], {CARRY}),
+        ([operate(COMPARE)] + [entry(TEST_FLAG, a=f) for f in range(6)], {DIRECTION}),
     ]
     for listed, places in examples:
         assert exposed(listed) == places

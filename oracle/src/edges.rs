@@ -64,6 +64,27 @@ fn flags(s: &mut Session, results: &[u64]) {
         }
     }
 }
+/// Every operation at every size, on Carry clear and set. Many values have bits above the size. The other bits of rflags are clear for every second
+/// of the first values, and set for the rest.
+fn arithmetic(s: &mut Session, step: u64) {
+    let values = [0, 1, 0x7f, 0x80, 0xff, 0x7fff, 0x8000, 0xffff, 0x7fff_ffff, 0x8000_0000, 0xffff_ffff, 0x7fff_ffff_ffff_ffff, 1 << 63, u64::MAX];
+    let mut k = 0;
+    for (operation, size, others) in (0..40).map(|i| (i / 8, i / 2 % 4, i % 2)) {
+        let mut w = pattern(5);
+        w[22] = 0u64.wrapping_sub(others);
+        s.reset(&w, 1, &[], 0);
+        for first in values.iter().skip(others as usize).step_by(2) {
+            for (second, carry) in values.iter().flat_map(|v| [(v, 0), (v, 1)]) {
+                k += 1;
+                if k % step == 0 {
+                    s.simple(SET_FLAG, 0, 0, carry);
+                    s.arithmetic(operation, size, *first, *second);
+                    s.show_machine();
+                }
+            }
+        }
+    }
+}
 /// Every register as base and as index, with every kind of scale; displacements at their ends.
 fn operands(s: &mut Session, scales: &[u64], displacements: &[i32]) {
     s.reset(&pattern(3), 64, &[], 0xEE);
@@ -227,6 +248,7 @@ pub fn all(s: &mut Session) {
     register_reads(s, &EDGES);
     register_writes(s, &EDGES, 1);
     flags(s, &results);
+    arithmetic(s, 1);
     operands(s, &[0, 1, 2, 3, 5, 9, 128, 256], &[0, 1, -1, 8, -8, i32::MIN, i32::MAX]);
     values(s);
     page_ends(s);
@@ -241,6 +263,7 @@ pub fn sample(s: &mut Session) {
     register_reads(s, &[0x8000_8080, 0xfedc_ba98_7654_3210, 0x7fff_7f7f, 0xffff_ffff_ffff_ffff]);
     register_writes(s, &[0x0123_4567_89ab_cdef, 0x8000_8080], 16);
     flags(s, &[0, 1, 0x7f, 0x80, 0xfe, 0x100, 0x8000, 0x8000_0000, 0x1_0000_0000, 0x8000_0000_0000_0000]);
+    arithmetic(s, 131);
     operands(s, &[0, 9, 256], &[0, i32::MIN]);
     values(s);
     page_ends(s);

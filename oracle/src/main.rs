@@ -1,9 +1,11 @@
 //! oracle MODE CALLS ANSWERS [SEED SEQUENCES FIRST]: writes a stream of calls, and the answers that the Rust gives, in the format of
-//! docs/FORMAT.md. Prints the number of calls on standard error: resets, loads and shows are not counted.
-//!   edges              registers, flags, operands, memory, walks, pushes, arguments and texts at their edges; the same at every run
+//! docs/FORMAT.md. Prints the number of calls on standard error, and how many of them are
+//! arithmetic, which is not the Rust's; resets, loads and shows are not counted.
+//!   edges              registers, flags, arithmetic, operands, memory, walks, pushes, arguments and texts at their edges; the same at every run
 //!   random             SEQUENCES sequences of mixed calls drawn from SEED, from the one numbered FIRST on, each with a dump at its end
 //!   sample             a choice of both, for the stored sample
 extern crate rust;
+mod arithmetic;
 mod edges;
 mod random;
 mod session;
@@ -33,10 +35,10 @@ fn main() {
             _ => panic!("no such mode: {}", a[1]),
         }
         s.finish();
-        s.counted
+        (s.counted, s.ours)
     });
     match done {
-        Ok(n) => eprintln!("{}", n),
+        Ok((counted, ours)) => eprintln!("{} {}", counted, ours),
         Err(e) => {
             let t = e.downcast_ref::<&str>().map(|s| s.to_string()).or(e.downcast_ref::<String>().cloned());
             eprintln!("oracle: {}", t.unwrap_or_default());

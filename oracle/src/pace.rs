@@ -2,8 +2,10 @@
 //! processor time go to standard error. It has no Rust runtime (no_main): under the kit's emulator that one fails on /proc/self/maps.
 #![no_main]
 extern crate rust;
+mod arithmetic;
 mod reading;
 mod report;
+use arithmetic::{operate, Operation};
 use rust::instruction_set::Register::{self, *};
 use rust::instruction_set::{ArgumentSize, Flags, InstructionArgument};
 use rust::machine_state::MachineState;
@@ -11,7 +13,7 @@ extern "C" {
     fn clock() -> i64;
 }
 
-const NAMES: [&str; 18] = [
+const NAMES: [&str; 19] = [
     "read 8 bytes, 1 page",
     "read 8 bytes, 16 pages",
     "read 8 bytes, 512 pages",
@@ -25,6 +27,7 @@ const NAMES: [&str; 18] = [
     "set a register, name known",
     "set a register, any name",
     "flags: compute, set, test",
+    "arithmetic: add, adc, sub, sbb, cmp",
     "effective address",
     "operand text",
     "operand text read back",
@@ -187,6 +190,36 @@ fn flags(turns: u64) -> u64 {
     mix(sum, m.rflags as u64)
 }
 
+fn any_operation(x: u64) -> Operation {
+    match x % 5 {
+        0 => Operation::Add,
+        1 => Operation::AddWithCarry,
+        2 => Operation::Subtract,
+        3 => Operation::SubtractWithBorrow,
+        _ => Operation::Compare,
+    }
+}
+
+fn any_bits(x: u64) -> u32 {
+    match x % 4 {
+        0 => 64,
+        1 => 32,
+        2 => 16,
+        _ => 8,
+    }
+}
+
+fn arithmetic(turns: u64) -> u64 {
+    let mut m = some_machine(turns);
+    let mut sum = 1u64;
+    for _ in 0..turns {
+        let (answer, rflags) = operate(any_operation(sum >> 40), any_bits(sum >> 32), sum, mix(sum, sum >> 20), m.rflags as u64);
+        m.rflags = rflags as i64;
+        sum = mix(mix(sum, answer.map_or(1, |value| value >> 32)), m.rflags as u64);
+    }
+    sum
+}
+
 fn any_displacement(x: u64) -> i32 {
     match x % 4 {
         0 => 0,
@@ -253,16 +286,17 @@ fn run(row: u64, turns: u64) -> u64 {
         10 => sets_known(turns),
         11 => sets_any(turns),
         12 => flags(turns),
-        13 => addresses(turns),
-        14 => operands(turns),
-        15 => reading::read_back(turns),
-        16 => states(turns),
+        13 => arithmetic(turns),
+        14 => addresses(turns),
+        15 => operands(turns),
+        16 => reading::read_back(turns),
+        17 => states(turns),
         _ => report::reports(turns),
     }
 }
 
 fn show(row: u64, turns: u64) {
-    println!("{}: {:016x}", NAMES[row.min(17) as usize], run(row, turns));
+    println!("{}: {:016x}", NAMES[row.min(18) as usize], run(row, turns));
 }
 
 #[no_mangle]
@@ -270,7 +304,7 @@ pub extern "C" fn main(_: i32, _: *const *const u8) -> i32 {
     std::panic::set_hook(Box::new(|_| {}));
     let words: Vec<u64> = std::env::args().skip(1).map(|w| w.parse().unwrap_or(0)).collect();
     if words.len() < 2 {
-        (0..18).for_each(|row| show(row, 100));
+        (0..19).for_each(|row| show(row, 100));
         return 0;
     }
     let began = unsafe { clock() };

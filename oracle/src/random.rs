@@ -135,7 +135,7 @@ fn start(s: &mut Session, g: &mut Rng, slots: usize) -> Places {
 fn one(s: &mut Session, g: &mut Rng, p: &Places) {
     if g.below(8) == 0 { return crate::texts::random(s, g, |g| p.operand(g)); }
     let size = g.below(4);
-    let mut kind = g.below(24);
+    let mut kind = g.below(26);
     if !s.room() && (matches!(kind, 3 | 4 | 5 | 7 | 8 | 10 | 11)) { kind = 0; }
     match kind {
         0..=2 => s.read(p.operand(g), size),
@@ -166,6 +166,14 @@ fn one(s: &mut Session, g: &mut Rng, p: &Places) {
         19 => s.write(register(4), 0, p.address(g)),
         20 => { let op = register(g.below(80)); if op[1] != 20 { s.write(op, size, g.value()) } else { s.read(op, size) } }
         21 => s.view(p.hot[g.below(p.hot.len() as u64) as usize], 0, 64),
+        22 | 23 => {
+            let a = g.value();
+            // as often as not a value that meets the first, so that what is carried counts
+            let b = match g.below(6) { 0 => a, 1 => !a, 2 => a.wrapping_neg(), _ => g.value() };
+            s.arithmetic(g.below(5), size, a, b);
+            // the next one would rewrite the flags
+            s.show_machine()
+        }
         _ => {
             let a = if g.below(6) == 0 { [0; 5] } else { p.operand(g) };
             let b = if g.below(2) == 0 { [0; 5] } else { p.operand(g) };

@@ -1,9 +1,10 @@
 //! 01's report of exposed places, written plainly: the Rust has none. A place is exposed if a call reads it and no earlier call has rewritten it.
+use crate::arithmetic::Operation;
 use rust::instruction_set::Register::*;
 use rust::instruction_set::{get_register_size, ArgumentSize, Flags, InstructionArgument, Register};
 use std::ops::Range;
 
-/// The calls of 01's table. What a call holds besides its operand or flag reads and rewrites nothing.
+/// The calls of 01's table, and of 02, No. 2. What a call holds besides its operand or flag reads and rewrites nothing.
 #[allow(dead_code)]
 enum Call {
     ReadOperand(InstructionArgument),
@@ -16,6 +17,7 @@ enum Call {
     TestFlag(Flags),
     SetFlag(Flags),
     ComputeFlags(u64),
+    Arithmetic(Operation),
 }
 
 const RSP_LANES: Range<usize> = 32..40;
@@ -104,17 +106,23 @@ fn reads(call: &Call, see: &mut dyn FnMut(Range<usize>)) {
         }
         Call::ReadMemory | Call::WriteMemory(_) => see(CR3_LANES),
         Call::TestFlag(ref f) => see(flag_place(f)),
-        Call::SetFlag(_) | Call::ComputeFlags(_) => (),
+        Call::Arithmetic(Operation::AddWithCarry | Operation::SubtractWithBorrow) => see(flag_place(&Flags::Carry)),
+        Call::SetFlag(_) | Call::ComputeFlags(_) | Call::Arithmetic(_) => (),
     }
 }
 
-fn rewrites(call: &Call) -> Range<usize> {
+fn rewrites(call: &Call, see: &mut dyn FnMut(Range<usize>)) {
     match *call {
-        Call::WriteOperand(InstructionArgument::Register { ref register }) => lanes(register, true),
-        Call::Push | Call::Pop => RSP_LANES,
-        Call::SetFlag(ref f) => flag_place(f),
-        Call::ComputeFlags(_) => 177..180,
-        _ => 0..0,
+        Call::WriteOperand(InstructionArgument::Register { ref register }) => see(lanes(register, true)),
+        Call::Push | Call::Pop => see(RSP_LANES),
+        Call::SetFlag(ref f) => see(flag_place(f)),
+        Call::ComputeFlags(_) => see(177..180),
+        Call::Arithmetic(_) => {
+            // all but Direction
+            see(176..180);
+            see(flag_place(&Flags::Overflow))
+        }
+        _ => (),
     }
 }
 
@@ -123,7 +131,7 @@ fn exposed_places(calls: &[Call]) -> [bool; 182] {
     let mut rewritten = [false; 182];
     for call in calls {
         reads(call, &mut |places| places.for_each(|p| exposed[p] |= !rewritten[p]));
-        rewrites(call).for_each(|p| rewritten[p] = true);
+        rewrites(call, &mut |places| places.for_each(|p| rewritten[p] = true));
     }
     exposed
 }

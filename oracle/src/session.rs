@@ -1,5 +1,6 @@
 //! One session: the Rust's machine, the directory that 01's rule gives, and the two streams of docs/FORMAT.md. Each call is written to the one,
-//! carried out by the Rust, and its answer written to the other.
+//! carried out by the Rust, and its answer written to the other. Arithmetic is ours (arithmetic.rs), on the Rust's rflags.
+use crate::arithmetic::{by_the_rules, operate, OPERATIONS};
 use rust::instruction_set::*;
 use rust::machine_state::MachineState;
 use rust::mmu;
@@ -20,6 +21,7 @@ pub const TEST_FLAG: u64 = 8;
 pub const SET_FLAG: u64 = 9;
 pub const COMPUTE_FLAGS: u64 = 10;
 pub const READ_BYTE: u64 = 11;
+const ARITHMETIC: u64 = 12;
 pub const SIZE: u64 = 16;
 pub const ONE: u64 = 17;
 pub const TWO: u64 = 18;
@@ -183,13 +185,15 @@ pub struct Session {
     answers: BufWriter<File>,
     pub printed: Printed,
     pub counted: u64,
+    /// Those that are not the Rust's: arithmetic.
+    pub ours: u64,
 }
 
 impl Session {
     pub fn new(calls: &str, answers: &str) -> Session {
         let open = |name: &str| BufWriter::with_capacity(1 << 16, File::create(name).unwrap());
         let (m, calls, answers) = (MachineState::new(), open(calls), open(answers));
-        Session { m, dir: vec![], used: 0, fill: 0, shown: 4096, calls, answers, printed: Printed::new(), counted: 0 }
+        Session { m, dir: vec![], used: 0, fill: 0, shown: 4096, calls, answers, printed: Printed::new(), counted: 0, ours: 0 }
     }
     pub fn finish(&mut self) {
         self.calls.flush().unwrap();
@@ -305,6 +309,7 @@ impl Session {
         a[3..6].copy_from_slice(&event(&line));
         self.put(&h, block, a, &lent);
         self.counted += 1;
+        self.ours += (h[0] == ARITHMETIC) as u64;
     }
 
     pub fn read(&mut self, op: Op, size: u64) { self.on_operand(READ, op, size, 0) }
@@ -331,6 +336,11 @@ impl Session {
     pub fn read_memory(&mut self, from: u64, n: u64) {
         let mut h = [0u64; 16];
         h[..6].copy_from_slice(&[READ_MEMORY, 0, 0, from, n, 0xA5]);
+        self.record(h, &[])
+    }
+    pub fn arithmetic(&mut self, operation: u64, size: u64, first: u64, second: u64) {
+        let mut h = [0u64; 16];
+        h[..6].copy_from_slice(&[ARITHMETIC, 0, size, first, second, operation]);
         self.record(h, &[])
     }
     /// size 4: no explicit size; opcode 0: none, else its number plus 1.
@@ -385,6 +395,13 @@ fn carry_out(h: &[u64; 16], m: &mut MachineState, lent: &mut Vec<u8>, touched: &
             (0, 0)
         }
         READ_BYTE => (1, m.mem_read_byte(h[3]) as u64),
+        ARITHMETIC => {
+            let (operation, bits, before) = (OPERATIONS[h[5] as usize], 64 >> h[2], m.rflags as u64);
+            let (answer, rflags) = by_the_rules(operation, bits, h[3], h[4], before);
+            assert!(operate(operation, bits, h[3], h[4], before) == (answer, rflags), "two forms of arithmetic differ: {:?}", &h[2..6]);
+            m.rflags = rflags as i64;
+            answer.map_or((0, 0), |v| (1, v))
+        }
         _ => {
             let args = built(h);
             match h[0] {

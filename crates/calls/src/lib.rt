@@ -1,7 +1,8 @@
-// Every call of 01's table as one value, and the function that carries one out. Below is machine_state, whose methods do the work; above are
-// rows, which says which places a call reads and rewrites, and the programs that read calls from outside.
-// Document 01: "Places and calls". The arguments of a call are fixed in its value; the bytes that push and write memory write, and the buffer that
-// read memory fills, are lent beside it.
+// Every tabled call, of 01 and of 02, as one value, and the function that carries one out. Below is machine_state, whose methods do the work; above
+// are rows, which says which places a call reads and rewrites, and the programs that read calls from outside.
+// Document 01: "Places and calls"; document 02: No. 2. The arguments of a call are fixed in its value; the bytes that push and write memory write,
+// and the buffer that read memory fills, are lent beside it.
+use arithmetic::Operation;
 use instruction_set::ArgumentSize;
 use instruction_set::Flags;
 use instruction_set::InstructionArgument;
@@ -13,6 +14,7 @@ use machine_state::MachineState;
 ghost use mathlib.Core.Path.{_≡_};
 ghost use Rattle.store.specs.Store.{storeOf};
 ghost use Rattle.machine_state.specs.Answers.{left};
+ghost use Rattle.machine_state.specs.Operating.{operated};
 ghost use Rattle.machine_state.specs.Steps.{finished};
 ghost use Rattle.calls.specs.Step.{step, addressAnswer};
 
@@ -48,6 +50,12 @@ pub enum Call {
         result: u64,
         size: ArgumentSize,
     },
+    Arithmetic {
+        operation: Operation,
+        size: ArgumentSize,
+        first: u64,
+        second: u64,
+    },
 }
 
 fn address_answer(address: Address) -> Answer
@@ -69,6 +77,23 @@ fn keep(machine: MachineState, used: usize, answer: Answer) -> Answered
         event: Event::Quiet,
         answer,
     }
+}
+
+// An operation shows nothing and leaves the count.
+fn operate(
+    machine: MachineState,
+    operation: Operation,
+    size: ArgumentSize,
+    first: u64,
+    second: u64,
+    used: usize,
+) -> Answered
+    ensures { λ r. ⌜ r ≡ finished (operated machine operation size first second .machine) used
+        (operated machine operation size first second .answer) ⌝ }
+{
+    let done = machine.operate(operation, size, first, second);
+    let answer = done.answer;
+    keep(done.machine, used, answer)
 }
 
 // Carries out one call on a machine and a lent store.
@@ -109,5 +134,11 @@ pub fn perform(
             used,
             Answer::Done,
         ),
+        Call::Arithmetic {
+            operation,
+            size,
+            first,
+            second,
+        } => operate(machine, operation, size, first, second, used),
     }
 }

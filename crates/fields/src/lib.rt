@@ -6,6 +6,8 @@ use instruction_set::Flags;
 use instruction_set::Part;
 ghost use mathlib.Core.Path.{_≡_};
 ghost use Prim.Native.Nat.{_+_, _*_, _/_, _%_, _^_};
+ghost use Rattle.utils.specs.Word.{cut};
+ghost use Rattle.instruction_set.specs.Sizes.{bytesOf};
 ghost use Rattle.fields.specs.Parts.{readOf, writeOf, memoryValue};
 ghost use Rattle.fields.specs.FlagBits.{flagOf, putFlag, signIn, evenOnes, computedFlags};
 
@@ -54,6 +56,18 @@ pub fn memory_value(word: u64, size: ArgumentSize) -> u64
         ArgumentSize::Bit32 => utils::sign_extend(word, 32),
         ArgumentSize::Bit16 => utils::sign_extend(word, 16),
         ArgumentSize::Bit8 => utils::sign_extend(word % 0x100, 64),
+    }
+}
+
+// The value's low bits, as many as the size has.
+pub fn cut_to(x: u64, size: ArgumentSize) -> u64
+    ensures { λ r. ⌜ r ≡ cut x 0 (8 * bytesOf size) ⌝ }
+{
+    match size {
+        ArgumentSize::Bit64 => x,
+        ArgumentSize::Bit32 => x % 0x1_0000_0000,
+        ArgumentSize::Bit16 => x % 0x1_0000,
+        ArgumentSize::Bit8 => x % 0x100,
     }
 }
 

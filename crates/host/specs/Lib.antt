@@ -1,1 +1,2 @@
+pub mod LentWords
 pub mod Numbered

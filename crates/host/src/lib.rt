@@ -1,12 +1,19 @@
 // A host keeps one machine and lends it: a flag is set in the machine behind a reference, through the by-value call of machine_state, from Rattle
-// (`set_flag`) or from C and Rust (`ruonasvel_set_flag`, declared in host/ruonasvel.h). Below are instruction_set and machine_state; above is
-// only the host. tools/link links this crate to a program in C.
+// (`set_flag`) or from C and Rust (`ruonasvel_set_flag`); and two values are added, subtracted or compared with its rflags, from C and Rust
+// (`ruonasvel_arithmetic`). Both are declared in host/ruonasvel.h. Below are instruction_set and machine_state, arithmetic, which has the
+// operations, and numbers, which names them; above is only the host. tools/link links this crate to programs in C.
 // Document 01: "After the core, the host keeps one machine and lends it to set a flag"; the flags' numbers are those of "Places and calls".
+// Document 02: No. 2.
+use arithmetic::Operation;
 use instruction_set::Flags;
+use instruction_set::SomeSize;
 use machine_state::MachineState;
+use numbers::SomeOperation;
 ghost use mathlib.Core.Path.{_≡_};
 ghost use Rattle.machine_state.specs.Flagged.{setFlag};
+ghost use Rattle.numbers.specs.Numbers.{sizeAt, operationAt};
 ghost use Rattle.host.specs.Numbered.{flagAt, names, isSet, setNumbered};
+ghost use Rattle.host.specs.LentWords.{lentAfter, unnamedAnswer, namedAnswer, answerTo, operatedOn};
 
 // The by-value call's event is always Quiet, so nothing of its answer is lost.
 pub fn set_flag(m: &mut MachineState, flag: Flags, value: bool)
@@ -59,4 +66,67 @@ fn flag_at(n: u64) -> Flags
         4 => Flags::Direction,
         _ => Flags::Overflow,
     }
+}
+
+// What an operation by number answers: `known` is 0 where a number names nothing, `answers` where there is no value.
+#[repr(C)]
+pub struct ArithmeticAnswer {
+    pub known: u64,
+    pub answers: u64,
+    pub value: u64,
+}
+
+// The machine is lent as its 25 words: the 22 registers, rflags, gdt and idt. Operation and size are any words; where one names nothing, no
+// word changes.
+#[no_mangle]
+pub extern "C" fn ruonasvel_arithmetic(
+    machine: &mut [u64; 25],
+    operation: u64,
+    size: u64,
+    first: u64,
+    second: u64,
+) -> ArithmeticAnswer
+    ensures { λ r. ⌜ lentAfter (now (machine .exit)) r ≡ operatedOn (operationAt operation) (sizeAt size) (now (machine .entry)) first second ⌝ }
+{
+    let asked = numbers::operation_at(operation);
+    let SomeOperation::Present(chosen) = asked else {
+        return unnamed();
+    };
+    let sized = numbers::size_at(size);
+    let SomeSize::Present(width) = sized else {
+        return unnamed();
+    };
+    let computed = arithmetic::compute(machine[22], chosen, width, first, second);
+    machine[22] = computed.rflags;
+    answer_to(chosen, computed.value)
+}
+
+fn unnamed() -> ArithmeticAnswer
+    ensures { λ r. ⌜ r ≡ unnamedAnswer ⌝ }
+{
+    ArithmeticAnswer {
+        known: 0,
+        answers: 0,
+        value: 0,
+    }
+}
+
+fn named(answers: u64, value: u64) -> ArithmeticAnswer
+    ensures { λ r. ⌜ r ≡ namedAnswer answers value ⌝ }
+{
+    ArithmeticAnswer {
+        known: 1,
+        answers,
+        value,
+    }
+}
+
+// What an operation that both numbers name answers: its value, if it gives one.
+fn answer_to(operation: Operation, value: u64) -> ArithmeticAnswer
+    ensures { λ r. ⌜ r ≡ answerTo operation value ⌝ }
+{
+    if arithmetic::gives_value(operation) {
+        return named(1, value);
+    }
+    named(0, 0)
 }

@@ -1,7 +1,7 @@
 -- What each step of a memory call does to what the call leaves: an answer of memory's among the machine's, a value given, rsp moved,
 -- bytes lent to a read with zeros above them. Each is one equation between records, so that a call's proof puts them end to end. Assumes
 -- nothing.
-use mathlib.Core.Bool.{false, cond, not}
+use mathlib.Core.Bool.{false, cond}
 use mathlib.Core.List.{List, [], _∷_, _++_}
 use mathlib.Core.Logic.{⊎-elim}
 use mathlib.Core.Path.{_≡_, refl, _∙_, ap}

@@ -1,7 +1,8 @@
 // The machine: its registers and flags, and the calls on them. A machine goes in by value and comes back inside the answer of every call that
-// may change it. Below are instruction_set, which names registers and operands, and fields, which reads and rewrites parts of words; above are
-// text, calls and the programs.
-// Document 01: "Registers and flags", the effective address of "Addresses, pages, walk", refusals 1 and 3.
+// may change it. Below are instruction_set, which names registers and operands, fields, which reads and rewrites parts of words, and arithmetic,
+// which works out sums and differences with their flags; above are text, calls and the programs.
+// Document 01: "Registers and flags", the effective address of "Addresses, pages, walk", refusals 1 and 3. Document 02: No. 2.
+use arithmetic::Operation;
 use instruction_set::ArgumentSize;
 use instruction_set::Flags;
 use instruction_set::InstructionArgument;
@@ -11,6 +12,7 @@ use instruction_set::SomeScale;
 ghost use mathlib.Core.Path.{_≡_};
 ghost use Rattle.machine_state.specs.Machine.{newMachine, readReg, writeReg, eventOf, changed};
 ghost use Rattle.machine_state.specs.Flagged.{flagIn, setFlag, computeFlags};
+ghost use Rattle.machine_state.specs.Operating.{answerOf, operated};
 ghost use Rattle.machine_state.specs.Address.{baseOf, addressOf};
 ghost use Rattle.machine_state.specs.Answers.{addressOutcome};
 ghost use Rattle.machine_state.specs.declared.Event.the-variants.{Quiet};
@@ -60,11 +62,27 @@ pub enum Answer {
     Refused(Refusal),
 }
 
+// The answer of an operation on two given values, which never refuses.
+pub struct Operated {
+    pub machine: MachineState,
+    pub answer: Answer,
+}
+
 pub struct Answered {
     pub machine: MachineState,
     pub used: usize,
     pub event: Event,
     pub answer: Answer,
+}
+
+// An operation that gives no value, compare, is done once its flags are set.
+fn operation_answer(operation: Operation, value: u64) -> Answer
+    ensures { λ r. ⌜ r ≡ answerOf operation value ⌝ }
+{
+    if arithmetic::gives_value(operation) {
+        return Answer::Value(value);
+    }
+    Answer::Done
 }
 
 mod memory; // memory.rt: memory calls, operand values and the stack
@@ -130,6 +148,24 @@ impl MachineState {
         Changed {
             machine: self,
             event: Event::Quiet,
+        }
+    }
+
+    // Adds, subtracts or compares two given values at a size.
+    pub fn operate(
+        mut self,
+        operation: Operation,
+        size: ArgumentSize,
+        first: u64,
+        second: u64,
+    ) -> Operated
+        ensures { λ r. ⌜ r ≡ operated self operation size first second ⌝ }
+    {
+        let done = arithmetic::compute(self.rflags, operation, size, first, second);
+        self.rflags = done.rflags;
+        Operated {
+            machine: self,
+            answer: operation_answer(operation, done.value),
         }
     }
 

@@ -8,7 +8,7 @@ use Prim.Native.Nat.{ℕ, _%_}
 use lib.Dec.{leb, eqb}
 use lib.ListN.{length}
 use Rattle.utils.specs.Outcome.{Outcome, gives, refuses, accepted}
-use Rattle.store.specs.Store.{Store, sound, live, unused, readAt, written, touched, absentOf}
+use Rattle.store.specs.Store.{Store, sound, slotsSuffice, readAt, written}
 use Rattle.walk.specs.Walk.{physical}
 use Rattle.writes.specs.Writes.{byteOf}
 use Rattle.mmu.specs.declared.Refusal.{Refusal}
@@ -39,9 +39,7 @@ readOut s cr3 a out = cond (accepted (readOutcome s (length out))) (readAt s (ph
 -- a write of n bytes at physical p: 4, then 5, then 6, "a write touches more absent pages than there are unused slots".
 -- "Length 0 .. still reaches memory for refusal 4": it touches no page, so 6 is never given; that no walk is done shows in no outcome
 unfoldable pub writeOutcome : Store → ℕ → ℕ → Outcome ℕ
-writeOutcome s p n =
-    cond (sound s) (cond (leb n 4096) (cond (leb (absentOf (live s) (touched p n)) (unused s)) (gives []) (refuses 6)) (refuses 5))
-    (refuses 4)
+writeOutcome s p n = cond (sound s) (cond (leb n 4096) (cond (slotsSuffice s p n) (gives []) (refuses 6)) (refuses 5)) (refuses 4)
 
 -- the store after the bytes d are written at physical p; a refused write leaves it
 unfoldable pub writeStore : Store → ℕ → List ℕ → Store

@@ -14,8 +14,10 @@ use Rattle.instruction_set.specs.declared.Register.{Register}
 use Rattle.instruction_set.specs.declared.Register.the-variants.{RAX}
 use Rattle.instruction_set.specs.declared.SomeRegister.the-variants as register
 use Rattle.instruction_set.specs.declared.SomeSize.the-variants as size
-use Rattle.numbers.specs.Numbers.{registers, numberOf, registerAt, sizeNumber, sizeAt, flagAt}
+use Rattle.arithmetic.specs.declared.Operation.the-variants.{Add, AddWithCarry, Subtract, SubtractWithBorrow, Compare}
+use Rattle.numbers.specs.Numbers.{registers, numberOf, registerAt, sizeNumber, sizeAt, flagAt, operationAt}
 use Rattle.numbers.specs.declared.SomeFlag.the-variants as flag
+use Rattle.numbers.specs.declared.SomeOperation.the-variants as operation
 
 -- n numbers from k on
 abbrev upFrom : ℕ → ℕ → List ℕ
@@ -55,6 +57,11 @@ no-size n le = List·getD-eq-default (map size.Present (Bit64 ∷ Bit32 ∷ Bit1
 pub no-flag : (n : ℕ) → 6 ≤ n → flagAt n ≡ flag.Absent
 unfolding flagAt
 no-flag n le = List·getD-eq-default (map flag.Present (Carry ∷ Parity ∷ Zero ∷ Sign ∷ Direction ∷ Overflow ∷ [])) flag.Absent le
+
+pub no-operation : (n : ℕ) → 5 ≤ n → operationAt n ≡ operation.Absent
+unfolding operationAt
+no-operation n le =
+    List·getD-eq-default (map operation.Present (Add ∷ AddWithCarry ∷ Subtract ∷ SubtractWithBorrow ∷ Compare ∷ [])) operation.Absent le
 
 pub size-stands : (z : ArgumentSize) → sizeAt (sizeNumber z) ≡ size.Present z
 unfolding sizeAt

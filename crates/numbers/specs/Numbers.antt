@@ -1,4 +1,5 @@
--- The numbers of docs/FORMAT.md, "A record": registers, sizes and flags, numbered in the Rust's order; and what stands at a number.
+-- The numbers of docs/FORMAT.md, "A record": registers, sizes and flags, numbered in the Rust's order, and operations; and what stands at
+-- a number.
 use mathlib.Core.List.{List, [], _∷_, map}
 use Prim.Native.Nat.{ℕ}
 use lib.ListN.{getD}
@@ -11,8 +12,11 @@ use Rattle.instruction_set.specs.declared.SomeRegister.{SomeRegister}
 use Rattle.instruction_set.specs.declared.SomeRegister.the-variants as register
 use Rattle.instruction_set.specs.declared.SomeSize.{SomeSize}
 use Rattle.instruction_set.specs.declared.SomeSize.the-variants as size
+use Rattle.arithmetic.specs.declared.Operation.the-variants.{Add, AddWithCarry, Subtract, SubtractWithBorrow, Compare}
 use Rattle.numbers.specs.declared.SomeFlag.{SomeFlag}
 use Rattle.numbers.specs.declared.SomeFlag.the-variants as flag
+use Rattle.numbers.specs.declared.SomeOperation.{SomeOperation}
+use Rattle.numbers.specs.declared.SomeOperation.the-variants as operation
 
 unfoldable pub numberOf : Register → ℕ
 numberOf reg.RAX = 0
@@ -128,3 +132,8 @@ sizeAt n = getD (map size.Present (Bit64 ∷ Bit32 ∷ Bit16 ∷ Bit8 ∷ [])) n
 -- "flags Carry 0, Parity, Zero, Sign, Direction, Overflow 5"
 unfoldable pub flagAt : ℕ → SomeFlag
 flagAt n = getD (map flag.Present (Carry ∷ Parity ∷ Zero ∷ Sign ∷ Direction ∷ Overflow ∷ [])) n flag.Absent
+
+-- "operations add 0, add with carry, subtract, subtract with borrow, compare 4"
+unfoldable pub operationAt : ℕ → SomeOperation
+operationAt n =
+    getD (map operation.Present (Add ∷ AddWithCarry ∷ Subtract ∷ SubtractWithBorrow ∷ Compare ∷ [])) n operation.Absent

@@ -1,5 +1,7 @@
-// Registers, sizes and flags by their numbers, in the Rust's order, as the records of the comparison give them (docs/FORMAT.md). Below is
-// instruction_set, which has the names; above are records, and name_reading, which finds a register by its number (document 02, No. 1).
+// Registers, sizes, flags and operations by their numbers, the first three in the Rust's order, as the records of the comparison and a host give
+// them (docs/FORMAT.md, host/ruonasvel.h). Below are instruction_set and arithmetic, which have the names; above are records, host, and
+// name_reading, which finds a register by its number (document 02, No. 1).
+use arithmetic::Operation;
 use instruction_set::ArgumentSize;
 use instruction_set::Flags;
 use instruction_set::Register;
@@ -9,11 +11,16 @@ ghost use mathlib.Core.Path.{_≡_};
 ghost use Prim.Native.Nat.{_<_};
 ghost use lib.ListN.{getD};
 ghost use Rattle.instruction_set.specs.declared.Register.the-variants.{RAX};
-ghost use Rattle.numbers.specs.Numbers.{numberOf, sizeNumber, registers, registerAt, sizeAt, flagAt};
+ghost use Rattle.numbers.specs.Numbers.{numberOf, sizeNumber, registers, registerAt, sizeAt, flagAt, operationAt};
 
 pub enum SomeFlag {
     Absent,
     Present(Flags),
+}
+
+pub enum SomeOperation {
+    Absent,
+    Present(Operation),
 }
 
 // The place of a register among the 80.
@@ -239,5 +246,19 @@ pub fn flag_at(n: u64) -> SomeFlag
         4 => SomeFlag::Present(Flags::Direction),
         5 => SomeFlag::Present(Flags::Overflow),
         _ => SomeFlag::Absent,
+    }
+}
+
+// The operation of a number, as the sizes and flags above.
+pub fn operation_at(n: u64) -> SomeOperation
+    ensures { λ r. ⌜ r ≡ operationAt n ⌝ }
+{
+    match n {
+        0 => SomeOperation::Present(Operation::Add),
+        1 => SomeOperation::Present(Operation::AddWithCarry),
+        2 => SomeOperation::Present(Operation::Subtract),
+        3 => SomeOperation::Present(Operation::SubtractWithBorrow),
+        4 => SomeOperation::Present(Operation::Compare),
+        _ => SomeOperation::Absent,
     }
 }

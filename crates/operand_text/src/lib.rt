@@ -1,5 +1,6 @@
 // The writers of operands: register, immediate, address, and one or two operands; and refusal 3, of an index that is shown without a scale.
-// Below are instruction_set, whose operands are shown, register_names and pieces; above is text, which measures, refuses and writes.
+// Below are instruction_set, whose operands are shown, fields, which cuts an immediate to its size, register_names and pieces; above is text, which
+// measures, refuses and writes.
 // Document 01, "Text": its sentences on operands, without the size that is selected and the refusals' order, which are text's.
 use instruction_set::ArgumentSize;
 use instruction_set::InstructionArgument;
@@ -13,9 +14,6 @@ use pieces::put_decimal;
 use pieces::put_hex;
 use register_names::put_name;
 ghost use mathlib.Core.Path.{_≡_};
-ghost use Prim.Native.Nat.{_*_};
-ghost use Rattle.utils.specs.Word.{cut};
-ghost use Rattle.instruction_set.specs.Sizes.{bytesOf};
 ghost use Rattle.register_names.specs.Names.{registerText};
 ghost use Rattle.operand_text.specs.Operands.{displacementText, baseText, scaleText, addressText, operandText, listText};
 ghost use Rattle.instruction_set.specs.Operands.{lacksScale, someLacksScale};
@@ -26,18 +24,6 @@ fn put_register(out: &mut [u8], at: usize, register: Register) -> usize
 {
     let o = put_byte(out, at, b'%');
     put_name(out, o, register)
-}
-
-// The value's low bits, as many as the size has.
-fn cut_to(x: u64, size: ArgumentSize) -> u64
-    ensures { λ r. ⌜ r ≡ cut x 0 (8 * bytesOf size) ⌝ }
-{
-    match size {
-        ArgumentSize::Bit64 => x,
-        ArgumentSize::Bit32 => x % 0x1_0000_0000,
-        ArgumentSize::Bit16 => x % 0x1_0000,
-        ArgumentSize::Bit8 => x % 0x100,
-    }
 }
 
 fn put_displacement(out: &mut [u8], at: usize, d: i32) -> usize
@@ -106,7 +92,7 @@ fn put_operand(out: &mut [u8], at: usize, x: InstructionArgument, size: Argument
     match x {
         InstructionArgument::Immediate { immediate } => {
             let o = put_bytes(out, at, b"$0x");
-            put_hex(out, o, cut_to(immediate, size))
+            put_hex(out, o, fields::cut_to(immediate, size))
         }
         InstructionArgument::Register { register } => put_register(out, at, register),
         InstructionArgument::EffectiveAddress {

@@ -10,7 +10,7 @@ mod registers; // registers.rt
 mod report; // report.rt
 mod texts; // texts.rt
 
-const ROWS: u64 = 18;
+const ROWS: u64 = 19;
 
 // A row's sum takes in an answer.
 pub(crate) fn mix(sum: u64, answer: u64) -> u64 {
@@ -60,10 +60,11 @@ fn name(row: u64) -> bool {
         10 => say(b"set a register, name known"),
         11 => say(b"set a register, any name"),
         12 => say(b"flags: compute, set, test"),
-        13 => say(b"effective address"),
-        14 => say(b"operand text"),
-        15 => say(b"operand text read back"),
-        16 => say(b"state text"),
+        13 => say(b"arithmetic: add, adc, sub, sbb, cmp"),
+        14 => say(b"effective address"),
+        15 => say(b"operand text"),
+        16 => say(b"operand text read back"),
+        17 => say(b"state text"),
         _ => say(b"exposed report of 64 calls"),
     }
 }
@@ -76,13 +77,13 @@ fn run(row: u64, turns: u64, dir: &mut [u64], bytes: &mut [u8]) -> u64 {
     if row < 8 {
         return memory::run(row, turns, dir, bytes);
     }
-    if row < 14 {
+    if row < 15 {
         return registers::run(row, turns);
     }
     match row {
-        14 => texts::operands(turns),
-        15 => texts::read_back(turns),
-        16 => texts::states(turns),
+        15 => texts::operands(turns),
+        16 => texts::read_back(turns),
+        17 => texts::states(turns),
         _ => report::reports(turns),
     }
 }

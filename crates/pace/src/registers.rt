@@ -1,5 +1,6 @@
-// Registers, flags and addresses. Where a row's name is known, the compiler sees which register it is; elsewhere the sum picks it.
+// Registers, flags, arithmetic and addresses. Where a row's name is known, the compiler sees which register it is; elsewhere the sum picks it.
 use super::mix;
+use arithmetic::Operation;
 use instruction_set::ArgumentSize;
 use instruction_set::Flags;
 use instruction_set::InstructionArgument;
@@ -7,6 +8,7 @@ use instruction_set::Register;
 use instruction_set::SomeRegister;
 use instruction_set::SomeScale;
 use machine_state::Address;
+use machine_state::Answer;
 use machine_state::MachineState;
 
 // Registers of each part, none of which gives an event.
@@ -111,6 +113,52 @@ fn flags(turns: u64) -> u64 {
     mix(sum, now.rflags)
 }
 
+fn any_operation(x: u64) -> Operation {
+    match x % 5 {
+        0 => Operation::Add,
+        1 => Operation::AddWithCarry,
+        2 => Operation::Subtract,
+        3 => Operation::SubtractWithBorrow,
+        _ => Operation::Compare,
+    }
+}
+
+fn any_size(x: u64) -> ArgumentSize {
+    match x % 4 {
+        0 => ArgumentSize::Bit64,
+        1 => ArgumentSize::Bit32,
+        2 => ArgumentSize::Bit16,
+        _ => ArgumentSize::Bit8,
+    }
+}
+
+// Of the value the upper half: with all 64 bits the sum would soon pick the same few values again and again.
+fn upper_half(answer: Answer) -> u64 {
+    match answer {
+        Answer::Value(value) => value >> 32,
+        Answer::Done => 1,
+        Answer::Truth(_) => 2,
+        Answer::Refused(_) => 3,
+    }
+}
+
+// A turn is one operation at one size, both picked by the sum, which takes in the answer and all flags.
+fn operations(turns: u64) -> u64 {
+    let mut now = some_machine(turns);
+    let mut sum: u64 = 1;
+    let mut i: u64 = 0;
+    while i < turns {
+        let operation = any_operation(sum >> 40);
+        let size = any_size(sum >> 32);
+        let done = now.operate(operation, size, sum, mix(sum, sum >> 20));
+        let answer = done.answer;
+        now = done.machine;
+        sum = mix(mix(sum, upper_half(answer)), now.rflags);
+        i += 1;
+    }
+    sum
+}
+
 fn any_displacement(x: u64) -> i32 {
     match x % 4 {
         0 => 0,
@@ -156,6 +204,7 @@ pub(crate) fn run(row: u64, turns: u64) -> u64 {
         10 => sets_known(turns),
         11 => sets_any(turns),
         12 => flags(turns),
+        13 => operations(turns),
         _ => addresses(turns),
     }
 }

@@ -16,18 +16,21 @@ use Rattle.instruction_set.specs.declared.InstructionArgument.the-variants as a
 use Rattle.instruction_set.specs.declared.SomeRegister.the-variants as reg
 use Rattle.instruction_set.specs.declared.SomeScale.the-variants as by
 use Rattle.fields.specs.Parts.{memoryValue}
+use Rattle.arithmetic.specs.declared.Operation.{Operation}
+use Rattle.arithmetic.specs.declared.Operation.the-variants.{Add, AddWithCarry, Subtract, SubtractWithBorrow, Compare}
 use Rattle.mmu.specs.Calls.{readOutcome, readOut, writeOutcome, writeStore, shownOf}
 use Rattle.store.specs.Store.{Store, sound, live, unused, touched, absentOf}
 use Rattle.walk.specs.Walk.{physical}
 use Rattle.machine_state.specs.Address.{addressOf}
-use Rattle.machine_state.specs.Answers.{word, After}
+use Rattle.machine_state.specs.Answers.{word, outcomeOf, After}
 use Rattle.machine_state.specs.Memory.{after, passed, cr3, rsp, below, readMemory, writeMemory, valued, withValue, loaded, storedAt}
 use Rattle.machine_state.specs.Memory.{readOperand, writeOperand, moved, pushed, popped}
+use Rattle.machine_state.specs.Operating.{operated}
 use Rattle.machine_state.specs.declared.Event.the-variants.{Quiet}
 use Rattle.machine_state.specs.declared.MachineState.{MachineState}
 use Rattle.calls.specs.Step.{step, beside}
 use Rattle.calls.specs.declared.Call.the-variants.{ReadOperand, WriteOperand, EffectiveAddress, Push, Pop, ReadMemory, WriteMemory}
-use Rattle.calls.specs.declared.Call.the-variants.{TestFlag, SetFlag, ComputeFlags}
+use Rattle.calls.specs.declared.Call.the-variants.{TestFlag, SetFlag, ComputeFlags, Arithmetic}
 use Rattle.promises.specs.Untouched.{Untouched, RefusedUntouched}
 
 -- ---- memory's outcomes give no value
@@ -148,6 +151,15 @@ addressed m s l (arg.EffectiveAddress b (reg.Present r) by.Absent d) h =
     record { machine = refl; store = refl; lent = refl; event = refl; values = refl }
 addressed m s l (arg.EffectiveAddress b (reg.Present r) (by.Present n) d) h = absurd (h refl)
 
+-- an operation on two given values is never refused
+pub never-refused : (o : Operation) (z : ArgumentSize) (a b : ℕ) (m : MachineState) → outcomeOf (operated m o z a b .answer) .number ≡ 0
+unfolding operated
+never-refused Add z a b m = refl
+never-refused AddWithCarry z a b m = refl
+never-refused Subtract z a b m = refl
+never-refused SubtractWithBorrow z a b m = refl
+never-refused Compare z a b m = refl
+
 pub refused-untouched : RefusedUntouched
 unfolding step pushed popped
 refused-untouched (ReadOperand a z) m s l h = beside-untouched m s [] (readOperand m s a z) l (operand-read m s a z h)
@@ -164,3 +176,4 @@ refused-untouched (WriteMemory a) m s l h = write-untouched m s a l h
 refused-untouched (TestFlag f) m s l h = absurd (h refl)
 refused-untouched (SetFlag f b) m s l h = absurd (h refl)
 refused-untouched (ComputeFlags x z) m s l h = absurd (h refl)
+refused-untouched (Arithmetic o z a b) m s l h = absurd (h (never-refused o z a b m))

@@ -3,7 +3,7 @@
 use mathlib.Core.Bool.{Bool, true, false, cond, _&&_, _||_, and-false}
 use mathlib.Core.List.{List, [], _∷_}
 use mathlib.Core.Logic.{_⊎_, inl, inr}
-use mathlib.Core.Path.{_≡_, refl, sym, _∙_, ap}
+use mathlib.Core.Path.{_≡_, refl, sym, _∙_, ap, subst}
 use Prim.Native.Nat.{ℕ, _+_, _-_, _%_, _^_, _<_, _≤_}
 use native.Mathlib.Nat.{mod-lt}
 use native.Mathlib.Omega.{arith}
@@ -23,13 +23,15 @@ use Rattle.instruction_set.specs.Registers.{row}
 use Rattle.instruction_set.specs.declared.ArgumentSize.{ArgumentSize}
 use Rattle.instruction_set.specs.declared.ArgumentSize.the-variants.{Bit64}
 use Rattle.instruction_set.specs.declared.Flags.{Flags}
-use Rattle.instruction_set.specs.declared.Flags.the-variants.{Parity, Zero, Sign}
+use Rattle.instruction_set.specs.declared.Flags.the-variants.{Carry, Parity, Zero, Sign, Overflow}
 use Rattle.instruction_set.specs.declared.InstructionArgument.the-variants as arg
 use Rattle.instruction_set.specs.declared.Register.the-variants.{RSP}
 use Rattle.instruction_set.specs.declared.SomeRegister.the-variants as reg
 use Rattle.instruction_set.specs.declared.SomeScale.the-variants as by
 use Rattle.fields.specs.FlagBits.{boolBit, evenOnes, signIn}
 use Rattle.fields.proofs.FlagLaws.{flag-back}
+use Rattle.arithmetic.specs.Sums.{workedAt, flagsOf, computedOf}
+use Rattle.arithmetic.specs.declared.Sum.{Sum}
 use Rattle.mmu.specs.Calls.{readOutcome, readOut, writeOutcome, writeStore}
 use Rattle.store.specs.Store.{Store, sound, byteAt}
 use Rattle.walk.specs.Walk.{physical}
@@ -41,20 +43,21 @@ use Rattle.machine_state.specs.Answers.{word, After}
 use Rattle.machine_state.specs.Flagged.{setFlag, computeFlags}
 use Rattle.machine_state.specs.Memory.{rsp, cr3, withRsp, after, passed, readMemory, writeMemory, loaded, storedAt, readOperand}
 use Rattle.machine_state.specs.Memory.{writeOperand, below, pushed, popped}
+use Rattle.machine_state.specs.Operating.{operated}
 use Rattle.machine_state.specs.declared.Event.the-variants.{Quiet}
 use Rattle.machine_state.specs.declared.MachineState.{MachineState}
 use Rattle.machine_state.proofs.Lanes.{write-read}
 use Rattle.calls.specs.Step.{step}
 use Rattle.calls.specs.declared.Call.{Call}
 use Rattle.calls.specs.declared.Call.the-variants.{ReadOperand, WriteOperand, EffectiveAddress, Push, Pop, ReadMemory, WriteMemory}
-use Rattle.calls.specs.declared.Call.the-variants.{TestFlag, SetFlag, ComputeFlags}
+use Rattle.calls.specs.declared.Call.the-variants.{TestFlag, SetFlag, ComputeFlags, Arithmetic}
 use Rattle.rows.specs.Exposed.{end}
 use Rattle.rows.specs.Places.{Act, State, Sound, place, does, rewrites}
-use Rattle.rows.specs.Rows.{nothing as noSpans, flagSpan, rewriteSpan, rewritesOf, inSpan, inSpans}
-use Rattle.rows.proofs.Owed.{owes}
-use Rattle.rows.proofs.Places.{write-new, flag-new, flag-renews, rsp-written}
+use Rattle.rows.specs.Rows.{nothing as noSpans, flagPlace, flagSpan, rewriteSpan, rewritesOf, inSpan, inSpans}
+use Rattle.rows.proofs.Owed.{owes, three-flags}
+use Rattle.rows.proofs.Places.{Renews, write-new, flag-new, flag-renews, flagged, rsp-written}
 use Rattle.rows.proofs.Theorem.{stays-sound}
-use Rattle.rows.proofs.Within.{in-low, in-high, in-out, one-only, three-only, nothing-in}
+use Rattle.rows.proofs.Within.{in-low, in-high, one-only, fiveInTurn, five-flags, nothing-in}
 use Rattle.promises.specs.Demand2.{ReadsBack, WalkStays, OthersStay, PopsBack, RegistersBack, OperandsBack, FlagsBack, Given}
 use Rattle.promises.specs.Demand2.{nothing, ifSo, holding, last, byteWritten, byteGiven, BytesLast, placeValue, placeGiven}
 use Rattle.promises.specs.Demand2.{PlacesLast, slotsFor, slotsTaken, allTaken, CountRule}
@@ -208,6 +211,7 @@ accessed (WriteMemory a) m s l = record { store = refl; number = refl }
 accessed (TestFlag f) m s l = record { store = refl; number = tt }
 accessed (SetFlag f b) m s l = record { store = refl; number = tt }
 accessed (ComputeFlags x z) m s l = record { store = refl; number = tt }
+accessed (Arithmetic o z a b) m s l = record { store = refl; number = tt }
 
 -- what no test decides
 either : {X : Type 0} (b : Bool) (x : X) → cond b x x ≡ x
@@ -292,61 +296,99 @@ module _ (m : MachineState) (g : Sound m) (p : ℕ) where
   one-flag : (f : Flags) (b : Bool) → inSpan (flagSpan f) p ≡ true → place (setFlag m f b) p ≡ boolBit b
   one-flag f b h = flag-new f b m p h ∙ bit-kept b
 
+-- ---- flags set one after the other: each stands at its place, and the others keep theirs
+record Setting : Type 0 where
+  flag : Flags
+  bit : Bool
+
+abbrev setting : Flags → Bool → Setting
+setting f b = record { flag = f; bit = b }
+
+abbrev setAll : List Setting → MachineState → MachineState
+setAll [] m = m
+setAll (s ∷ ss) m = setAll ss (setFlag m (s .flag) (s .bit))
+
+-- what place p holds then, if v stood there
+abbrev heldAt : List Setting → ℕ → ℕ → ℕ
+heldAt [] p v = v
+heldAt (s ∷ ss) p v = heldAt ss p (cond (inSpan (flagSpan (s .flag)) p) (boolBit (s .bit)) v)
+
 nowhere : ℕ → Bool
 nowhere p = false
 
--- `compute_flags` sets Zero, then Sign, then Parity, and none of them touches the others
-module _ (m : MachineState) (g : Sound m) (v : ℕ) (z : ArgumentSize) where
-  zeroed-good : Sound (setFlag m Zero (eqb v 0))
-  zeroed-good = flag-renews Zero (eqb v 0) nowhere .good m g
+all-set : (ss : List Setting) (m : MachineState) (p v : ℕ) → Sound m → place m p ≡ v → place (setAll ss m) p ≡ heldAt ss p v
+all-set [] m p v g e = e
+all-set (s ∷ ss) m p v g e =
+    all-set ss (setFlag m (s .flag) (s .bit)) p _ (renewed .good m g) (go (tested (inSpan (flagSpan (s .flag)) p)))
+  where
+    renewed : Renews nowhere (λ n. setFlag n (s .flag) (s .bit)) (inSpan (flagSpan (s .flag)))
+    renewed = flag-renews (s .flag) (s .bit) nowhere
 
-  signed-good : Sound (setFlag (setFlag m Zero (eqb v 0)) Sign (signIn z v))
-  signed-good = flag-renews Sign (signIn z v) nowhere .good (setFlag m Zero (eqb v 0)) zeroed-good
+    go : (inSpan (flagSpan (s .flag)) p ≡ true) ⊎ (inSpan (flagSpan (s .flag)) p ≡ false)
+        → place (setFlag m (s .flag) (s .bit)) p ≡ cond (inSpan (flagSpan (s .flag)) p) (boolBit (s .bit)) v
+    go (inl t) = rw t (one-flag m g p (s .flag) (s .bit) t)
+    go (inr n) = rw n (renewed .keeps m p g n ∙ e)
 
-  parity-new : (p : ℕ) → inSpan (flagSpan Parity) p ≡ true → place (computeFlags m v z) p ≡ boolBit (evenOnes v)
-  parity-new p h = one-flag (setFlag (setFlag m Zero (eqb v 0)) Sign (signIn z v)) signed-good p Parity (evenOnes v) h
+-- what holds at the place of each flag holds at every place that is one of them
+abbrev orFlags : (ℕ → Bool) → List Flags → ℕ → Bool
+orFlags w [] p = w p
+orFlags w (f ∷ fs) p = orFlags (λ q. w q || inSpan (flagSpan f) q) fs p
 
-  sign-new : (p : ℕ) → inSpan (flagSpan Sign) p ≡ true → place (computeFlags m v z) p ≡ boolBit (signIn z v)
-  sign-new p h =
-      let lo : 179 ≤ p = in-low (flagSpan Sign) p h in
-      flag-renews Parity (evenOnes v) nowhere .keeps (setFlag (setFlag m Zero (eqb v 0)) Sign (signIn z v)) p signed-good
-      (in-out (flagSpan Parity) p (inr (omega arith)))
-      ∙ one-flag (setFlag m Zero (eqb v 0)) zeroed-good p Sign (signIn z v) h
+abbrev AtEach : List Flags → (ℕ → Type 0) → Type 0
+AtEach [] P = Unit
+AtEach (f ∷ fs) P = P (flagPlace f) × AtEach fs P
 
-  zero-new : (p : ℕ) → inSpan (flagSpan Zero) p ≡ true → place (computeFlags m v z) p ≡ boolBit (eqb v 0)
-  zero-new p h =
-      let lo : 178 ≤ p = in-low (flagSpan Zero) p h in
-      let hi : p < 179 = in-high (flagSpan Zero) p h in
-      flag-renews Parity (evenOnes v) nowhere .keeps (setFlag (setFlag m Zero (eqb v 0)) Sign (signIn z v)) p signed-good
-      (in-out (flagSpan Parity) p (inr (omega arith)))
-      ∙ flag-renews Sign (signIn z v) nowhere .keeps (setFlag m Zero (eqb v 0)) p zeroed-good (in-out (flagSpan Sign) p (inl (omega arith)))
-      ∙ one-flag m g p Zero (eqb v 0) h
+at-flag : (f : Flags) (p : ℕ) → inSpan (flagSpan f) p ≡ true → flagPlace f ≡ p
+at-flag f p h =
+    let lo = in-low (flagSpan f) p h in
+    let hi = in-high (flagSpan f) p h in
+    omega arith
 
-  computed-new : (p : ℕ) → (inSpan (flagSpan Parity) p || (inSpan (flagSpan Zero) p || inSpan (flagSpan Sign) p)) ≡ true
-      → place (computeFlags m v z) p ≡ boolBit (getD (evenOnes v ∷ eqb v 0 ∷ signIn z v ∷ []) (p - 177) false)
-  computed-new p h = go (tested (inSpan (flagSpan Parity) p)) (tested (inSpan (flagSpan Zero) p))
-    where
-      found : (k : ℕ) (b : Bool) → p - 177 ≡ k → getD (evenOnes v ∷ eqb v 0 ∷ signIn z v ∷ []) k false ≡ b
-          → place (computeFlags m v z) p ≡ boolBit b
-          → place (computeFlags m v z) p ≡ boolBit (getD (evenOnes v ∷ eqb v 0 ∷ signIn z v ∷ []) (p - 177) false)
-      found k b e f q = q ∙ ap boolBit (sym f) ∙ ap (λ (j : ℕ). boolBit (getD (evenOnes v ∷ eqb v 0 ∷ signIn z v ∷ []) j false)) (sym e)
+at-some : (P : ℕ → Type 0) (w : ℕ → Bool) (fs : List Flags) (p : ℕ) → (w p ≡ true → P p) → AtEach fs P → orFlags w fs p ≡ true → P p
+at-some P w [] p first all h = first h
+at-some P w (f ∷ fs) p first all h = at-some P (λ q. w q || inSpan (flagSpan f) q) fs p (λ e. go (tested (w p)) e) (all .1) h
+  where
+    go : (w p ≡ true) ⊎ (w p ≡ false) → (w p || inSpan (flagSpan f) p) ≡ true → P p
+    go (inl t) e = first t
+    go (inr n) e = subst P (at-flag f p (rw n at e)) (all .0)
 
-      go : (inSpan (flagSpan Parity) p ≡ true) ⊎ (inSpan (flagSpan Parity) p ≡ false)
-          → (inSpan (flagSpan Zero) p ≡ true) ⊎ (inSpan (flagSpan Zero) p ≡ false)
-          → place (computeFlags m v z) p ≡ boolBit (getD (evenOnes v ∷ eqb v 0 ∷ signIn z v ∷ []) (p - 177) false)
-      go (inl a) b =
-          let lo : 177 ≤ p = in-low (flagSpan Parity) p a in
-          let hi : p < 178 = in-high (flagSpan Parity) p a in
-          found 0 (evenOnes v) (omega arith) refl (parity-new p a)
-      go (inr a) (inl b) =
-          let lo : 178 ≤ p = in-low (flagSpan Zero) p b in
-          let hi : p < 179 = in-high (flagSpan Zero) p b in
-          found 1 (eqb v 0) (omega arith) refl (zero-new p b)
-      go (inr a) (inr b) =
-          let c : inSpan (flagSpan Sign) p ≡ true = rw (a, b) at h in
-          let lo : 179 ≤ p = in-low (flagSpan Sign) p c in
-          let hi : p < 180 = in-high (flagSpan Sign) p c in
-          found 2 (signIn z v) (omega arith) refl (sign-new p c)
+-- `compute_flags` sets Zero, then Sign, then Parity
+computed-new : (m : MachineState) (v : ℕ) (z : ArgumentSize) (p : ℕ) → Sound m
+    → ((inSpan (flagSpan Zero) p || inSpan (flagSpan Sign) p) || inSpan (flagSpan Parity) p) ≡ true
+    → place (computeFlags m v z) p ≡ boolBit (getD (evenOnes v ∷ eqb v 0 ∷ signIn z v ∷ []) (p - 177) false)
+unfolding inSpan
+computed-new m v z p g h =
+    all-set settings m p _ g refl
+    ∙ at-some Found (inSpan (flagSpan Zero)) (Sign ∷ Parity ∷ []) p (λ t. subst Found (at-flag Zero p t) refl) (refl, (refl, tt)) h
+  where
+    settings : List Setting
+    settings = setting Zero (eqb v 0) ∷ setting Sign (signIn z v) ∷ setting Parity (evenOnes v) ∷ []
+
+    Found : ℕ → Type 0
+    Found k = heldAt settings k (place m k) ≡ boolBit (getD (evenOnes v ∷ eqb v 0 ∷ signIn z v ∷ []) (k - 177) false)
+
+-- an operation sets Carry, Parity, Zero, Sign, Overflow
+operated-new : (m : MachineState) (z : ArgumentSize) (r : Sum) (p : ℕ) → Sound m → fiveInTurn p ≡ true
+    → place (flagged z r m) p
+    ≡ boolBit (getD (r .carry ∷ evenOnes (r .value) ∷ eqb (r .value) 0 ∷ signIn z (r .value) ∷ false ∷ r .overflow ∷ []) (p - 176) false)
+unfolding inSpan flagsOf
+operated-new m z r p g h =
+    all-set settings m p _ g refl
+    ∙ at-some Found (inSpan (flagSpan Carry)) (Parity ∷ Zero ∷ Sign ∷ Overflow ∷ []) p (λ t. subst Found (at-flag Carry p t) refl)
+    (refl, (refl, (refl, (refl, tt)))) h
+  where
+    v : ℕ
+    v = r .value
+
+    settings : List Setting
+    settings =
+        setting Carry (r .carry) ∷ setting Parity (evenOnes v) ∷ setting Zero (eqb v 0) ∷ setting Sign (signIn z v)
+        ∷ setting Overflow (r .overflow) ∷ []
+
+    Found : ℕ → Type 0
+    Found k =
+        heldAt settings k (place m k)
+        ≡ boolBit (getD (r .carry ∷ evenOnes v ∷ eqb v 0 ∷ signIn z v ∷ false ∷ r .overflow ∷ []) (k - 176) false)
 
 no-row : {X : Type 0} (p : ℕ) (x y : X) → inSpans noSpans p ≡ true → x ≡ y
 no-row p x y h = let z : inSpans noSpans p ≡ false = nothing-in p in let w : x ≡ y = cc in w
@@ -357,7 +399,7 @@ word-lt x = mod-lt x (pow-pos 64)
 place-new : (c : Call) (m : MachineState) (s : Store) (l : List ℕ) (p : ℕ) → Sound m → accepted (step c m s l .outcome) ≡ true
     → inSpans (rewritesOf c) p ≡ true
     → place (step c m s l .machine) p ≡ placeValue c m l p
-unfolding step readOperand writeOperand pushed popped loaded readMemory writeMemory rewritesOf placeValue row
+unfolding step readOperand writeOperand pushed popped loaded readMemory writeMemory operated computedOf rewritesOf placeValue row
 place-new (ReadOperand a z) m s l p g o h = no-row p _ _ h
 place-new (WriteOperand (arg.Register r) z v) m s l p g o h = write-new r v m p g (sym (one-only (rewriteSpan r) p) ∙ h)
 place-new (WriteOperand (arg.Immediate x) z v) m s l p g o h = no-row p _ _ h
@@ -369,8 +411,8 @@ place-new (ReadMemory a) m s l p g o h = no-row p _ _ h
 place-new (WriteMemory a) m s l p g o h = no-row p _ _ h
 place-new (TestFlag f) m s l p g o h = no-row p _ _ h
 place-new (SetFlag f b) m s l p g o h = one-flag m g p f b (sym (one-only (flagSpan f) p) ∙ h)
-place-new (ComputeFlags v z) m s l p g o h =
-    computed-new m g v z p (sym (three-only (flagSpan Parity) (flagSpan Zero) (flagSpan Sign) p) ∙ h)
+place-new (ComputeFlags v z) m s l p g o h = computed-new m v z p g (sym (three-flags p) ∙ h)
+place-new (Arithmetic o e a b) m s l p g w h = operated-new m e (workedAt (m .rflags) o e a b) p g (sym (five-flags p) ∙ h)
 
 one-place : (p : ℕ) (a : Act) (x : State) → Sound (x .machine)
     → place (does a x .after .machine) p ≡ holding (placeGiven p a x) (place (x .machine) p)

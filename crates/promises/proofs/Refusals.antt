@@ -29,9 +29,10 @@ use Rattle.machine_state.specs.declared.MachineState.{MachineState}
 use Rattle.calls.specs.Step.{step}
 use Rattle.calls.specs.declared.Call.{Call}
 use Rattle.calls.specs.declared.Call.the-variants.{ReadOperand, WriteOperand, EffectiveAddress, Push, Pop, ReadMemory, WriteMemory}
-use Rattle.calls.specs.declared.Call.the-variants.{TestFlag, SetFlag, ComputeFlags}
+use Rattle.calls.specs.declared.Call.the-variants.{TestFlag, SetFlag, ComputeFlags, Arithmetic}
 use Rattle.rows.specs.Rows.{reaches}
 use Rattle.promises.specs.Refusals.{accessOf, Check, check, checks, firstHeld, noneHolds, RefusedInOrder, AcceptedExactly}
+use Rattle.promises.proofs.Demand1.{never-refused}
 
 -- ---- memory's two outcomes
 not-over : (a b : ℕ) → leb a b ≡ not (ltb b a)
@@ -131,6 +132,7 @@ refused-in-order (WriteMemory a) m s l = write-number s (physical s (cr3 m) a) (
 refused-in-order (TestFlag f) m s l = refl
 refused-in-order (SetFlag f b) m s l = refl
 refused-in-order (ComputeFlags x z) m s l = refl
+refused-in-order (Arithmetic o z a b) m s l = never-refused o z a b m
 
 -- ---- accepted: no number of the table is 0
 someNumbers : List Check → Bool
@@ -161,6 +163,7 @@ numbered (WriteMemory a) m s l = refl
 numbered (TestFlag f) m s l = refl
 numbered (SetFlag f b) m s l = refl
 numbered (ComputeFlags x z) m s l = refl
+numbered (Arithmetic o z a b) m s l = refl
 
 pub accepted-exactly : AcceptedExactly
 accepted-exactly c m s l = ap (λ (n : ℕ). eqb n 0) (refused-in-order c m s l) ∙ none-held (checks c m s l) (numbered c m s l)

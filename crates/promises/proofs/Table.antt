@@ -26,7 +26,7 @@ use Rattle.machine_state.specs.Memory.{loaded, pushed, readMemory, writeMemory}
 use Rattle.rows.specs.Exposed.{exposed}
 use Rattle.rows.specs.Places.{reads, rewrites}
 use Rattle.rows.specs.Rows.{readsOf, rewritesOf, inSpan, inSpans}
-use Rattle.promises.specs.Table.{minus, said, flags, eighty, twoSlots, oneSlot, pageZero, tables, eight, afterPush, afterTop}
+use Rattle.promises.specs.Table.{minus, said, eighty, twoSlots, oneSlot, pageZero, tables, eight, afterPush, afterTop}
 use Rattle.promises.specs.Table.{placesOf, exposedOf, writing, reading, pushing, table, left, right}
 use Rattle.promises.proofs.Demand2.{reads-accepted, reads-back, others-stay, sound-after}
 

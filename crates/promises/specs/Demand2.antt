@@ -20,6 +20,7 @@ use Rattle.fields.specs.Parts.{memoryValue}
 use Rattle.instruction_set.specs.declared.Flags.{Flags}
 use Rattle.instruction_set.specs.declared.Register.{Register}
 use Rattle.fields.specs.FlagBits.{boolBit, evenOnes, signIn}
+use Rattle.arithmetic.specs.Sums.{workedAt}
 use Rattle.store.specs.Store.{Store, live, touched, absentOf, byteAt}
 use Rattle.walk.specs.Walk.{physical, entriesRead}
 use Rattle.machine_state.specs.Answers.{word}
@@ -30,7 +31,7 @@ use Rattle.machine_state.specs.declared.Event.the-variants.{Quiet}
 use Rattle.machine_state.specs.declared.MachineState.{MachineState}
 use Rattle.calls.specs.declared.Call.{Call}
 use Rattle.calls.specs.declared.Call.the-variants.{ReadOperand, WriteOperand, EffectiveAddress, Push, Pop, ReadMemory, WriteMemory}
-use Rattle.calls.specs.declared.Call.the-variants.{TestFlag, SetFlag, ComputeFlags}
+use Rattle.calls.specs.declared.Call.the-variants.{TestFlag, SetFlag, ComputeFlags, Arithmetic}
 use Rattle.rows.specs.Exposed.{end}
 use Rattle.rows.specs.Places.{Act, State, Sound, place, does, rewrites}
 use Rattle.promises.specs.Refusals.{Access, none, reading, writing, accessOf}
@@ -127,7 +128,7 @@ laneOf (arg.Register r) v p = lane (p - (8 * parentOf r + firstOf (partOf r))) (
 laneOf (arg.Immediate x) v p = 0
 laneOf (arg.EffectiveAddress b i s d) v p = 0
 
--- rsp stands at places 32 to 39; Parity, Zero and Sign at 177, 178 and 179
+-- rsp stands at places 32 to 39, and the flags at 176 to 181: Carry, Parity, Zero, Sign, Direction, which no operation rewrites, Overflow
 unfoldable pub placeValue : Call → MachineState → List ℕ → ℕ → ℕ
 placeValue (ReadOperand a z) m l p = 0
 placeValue (WriteOperand a z v) m l p = laneOf a v p
@@ -139,6 +140,10 @@ placeValue (WriteMemory a) m l p = 0
 placeValue (TestFlag f) m l p = 0
 placeValue (SetFlag f b) m l p = boolBit b
 placeValue (ComputeFlags v z) m l p = boolBit (getD (evenOnes v ∷ eqb v 0 ∷ signIn z v ∷ []) (p - 177) false)
+placeValue (Arithmetic o z a b) m l p =
+    let r = workedAt (m .rflags) o z a b in
+    let v = r .value in
+    boolBit (getD (r .carry ∷ evenOnes v ∷ eqb v 0 ∷ signIn z v ∷ false ∷ r .overflow ∷ []) (p - 176) false)
 
 abbrev pub placeGiven : ℕ → Act → State → Given
 placeGiven p a x = ifSo (isAccepted a x && rewrites a p) (placeValue (a .call) (x .machine) (a .lent) p)

@@ -2,5 +2,8 @@ pub mod Untouched
 pub mod Refusals
 pub mod Demand2
 pub mod Demand3
+pub mod Chain
+pub mod Dropped
 pub mod Table
+pub mod SumTable
 pub mod ReadBack

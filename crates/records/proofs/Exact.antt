@@ -1,7 +1,8 @@
 -- The ways out of the decoders that are not one clause of Decoded: a word that is a number plus 1, a call's kind, and a kind past the last
 -- of a list. By cases, and by counting up from the first kind. Assumes nothing.
-use mathlib.Core.Path.{_≡_, refl, sym}
+use mathlib.Core.Path.{_≡_, sym}
 use Prim.Native.Nat.{ℕ, zero, suc, _-_, _<_, _≤_}
+use native.Mathlib.Decide.{ℕ-discrete}
 use native.Mathlib.Omega.{arith}
 use borrow.Author.Tests.{lt-ltb, le-ltb}
 use lib.ListN.{getD, List·getD-eq-default}
@@ -48,17 +49,17 @@ event-past w le = sym (List·getD-eq-default (eventKinds w) occurred.Malformed l
 up : (k : ℕ) {n : ℕ} → k ≤ n → (n ≡ k → ⊥) → suc k ≤ n
 up k le ne = omega (arith, le, ne)
 
--- kind 0 is no call either
+-- kinds 0 and 11 are no call either
 pub call-past : (h : Header) → (h .kind ≡ 1 → ⊥) → (h .kind ≡ 2 → ⊥) → (h .kind ≡ 3 → ⊥) → (h .kind ≡ 4 → ⊥) → (h .kind ≡ 5 → ⊥)
-    → (h .kind ≡ 6 → ⊥) → (h .kind ≡ 7 → ⊥) → (h .kind ≡ 8 → ⊥) → (h .kind ≡ 9 → ⊥) → (h .kind ≡ 10 → ⊥) → decoded.Malformed ≡ callOf h
+    → (h .kind ≡ 6 → ⊥) → (h .kind ≡ 7 → ⊥) → (h .kind ≡ 8 → ⊥) → (h .kind ≡ 9 → ⊥) → (h .kind ≡ 10 → ⊥) → (h .kind ≡ 12 → ⊥)
+    → decoded.Malformed ≡ callOf h
 unfolding callOf
-call-past h n1 n2 n3 n4 n5 n6 n7 n8 n9 n10 = go (h .kind) n1 n2 n3 n4 n5 n6 n7 n8 n9 n10
+call-past h n1 n2 n3 n4 n5 n6 n7 n8 n9 n10 n12 = go (ℕ-discrete (h .kind) 0) (ℕ-discrete (h .kind) 11)
   where
-    go : (k : ℕ) → (k ≡ 1 → ⊥) → (k ≡ 2 → ⊥) → (k ≡ 3 → ⊥) → (k ≡ 4 → ⊥) → (k ≡ 5 → ⊥)
-        → (k ≡ 6 → ⊥) → (k ≡ 7 → ⊥) → (k ≡ 8 → ⊥) → (k ≡ 9 → ⊥) → (k ≡ 10 → ⊥)
-        → decoded.Malformed ≡ getD (callKinds h) k decoded.Malformed
-    go zero n1 n2 n3 n4 n5 n6 n7 n8 n9 n10 = refl
-    go (suc k) n1 n2 n3 n4 n5 n6 n7 n8 n9 n10 =
-        let six = up 5 (up 4 (up 3 (up 2 (up 1 (omega arith) n1) n2) n3) n4) n5 in
-        let le : 11 ≤ suc k = up 10 (up 9 (up 8 (up 7 (up 6 six n6) n7) n8) n9) n10 in
+    go : Dec (h .kind ≡ 0) → Dec (h .kind ≡ 11) → decoded.Malformed ≡ getD (callKinds h) (h .kind) decoded.Malformed
+    go (yes e) d = rw e
+    go (no n) (yes e) = rw e
+    go (no n0) (no n11) =
+        let six = up 5 (up 4 (up 3 (up 2 (up 1 (up 0 (omega arith) n0) n1) n2) n3) n4) n5 in
+        let le : 13 ≤ h .kind = up 12 (up 11 (up 10 (up 9 (up 8 (up 7 (up 6 six n6) n7) n8) n9) n10) n11) n12 in
         sym (List·getD-eq-default (callKinds h) decoded.Malformed le)

@@ -26,13 +26,16 @@ use Rattle.instruction_set.specs.declared.SomeScale.{SomeScale}
 use Rattle.instruction_set.specs.declared.SomeScale.the-variants as scale
 use Rattle.instruction_set.specs.declared.SomeSize.{SomeSize}
 use Rattle.instruction_set.specs.declared.SomeSize.the-variants as size
+use Rattle.arithmetic.specs.declared.Operation.{Operation}
 use Rattle.machine_state.specs.declared.Event.{Event}
 use Rattle.machine_state.specs.declared.Event.the-variants as event
 use Rattle.calls.specs.declared.Call.{Call}
 use Rattle.calls.specs.declared.Call.the-variants as call
-use Rattle.numbers.specs.Numbers.{registerAt, sizeAt, flagAt}
+use Rattle.numbers.specs.Numbers.{registerAt, sizeAt, flagAt, operationAt}
 use Rattle.numbers.specs.declared.SomeFlag.{SomeFlag}
 use Rattle.numbers.specs.declared.SomeFlag.the-variants as flag
+use Rattle.numbers.specs.declared.SomeOperation.{SomeOperation}
+use Rattle.numbers.specs.declared.SomeOperation.the-variants as operation
 use Rattle.records.specs.Built.{argumentsOf}
 use Rattle.records.specs.declared.Header.{Header}
 use Rattle.records.specs.declared.OperandWords.{OperandWords}
@@ -68,6 +71,10 @@ module _ {ℓ} {A : Type ℓ} (none : A) where
   abbrev pub withFlag : SomeFlag → (Flags → A) → A
   withFlag flag.Absent go = none
   withFlag (flag.Present f) go = go f
+
+  abbrev pub withOperation : SomeOperation → (Operation → A) → A
+  withOperation operation.Absent go = none
+  withOperation (operation.Present o) go = go o
 
   abbrev pub withGiven : SomeArgument → (InstructionArgument → A) → A
   withGiven argument.Absent go = none
@@ -197,11 +204,18 @@ setCall h =
 unfoldable pub computeCall : Header → SomeCall
 computeCall h = withSize decoded.Malformed (sizeAt (h .size)) (λ z. decoded.Is (call.ComputeFlags (h .a) z))
 
--- kinds 1 to 10; 0, and all past 10, are no call
+-- "size; a and b the values, c the operation"
+unfoldable pub operationCall : Header → SomeCall
+operationCall h =
+    withOperation decoded.Malformed (operationAt (h .c)) (λ o.
+    withSize decoded.Malformed (sizeAt (h .size)) (λ z. decoded.Is (call.Arithmetic o z (h .a) (h .b))))
+
+-- kinds 1 to 10, and 12; 0, 11, and all past 12, are no call
 abbrev pub callKinds : Header → List SomeCall
 callKinds h =
     decoded.Malformed ∷ readCall h ∷ writeCall h ∷ addressCall h ∷ decoded.Is call.Push ∷ decoded.Is call.Pop ∷
-    decoded.Is (call.ReadMemory (h .a)) ∷ decoded.Is (call.WriteMemory (h .a)) ∷ testCall h ∷ setCall h ∷ computeCall h ∷ []
+    decoded.Is (call.ReadMemory (h .a)) ∷ decoded.Is (call.WriteMemory (h .a)) ∷ testCall h ∷ setCall h ∷ computeCall h ∷
+    decoded.Malformed ∷ operationCall h ∷ []
 
 unfoldable pub callOf : Header → SomeCall
 callOf h = getD (callKinds h) (h .kind) decoded.Malformed

@@ -12,15 +12,17 @@ use instruction_set::SomeScale;
 use instruction_set::SomeSize;
 use machine_state::Event;
 use numbers::SomeFlag;
+use numbers::SomeOperation;
 use numbers::flag_at;
+use numbers::operation_at;
 use numbers::register_at;
 use numbers::size_at;
 ghost use mathlib.Core.Path.{_≡_};
 ghost use Rattle.records.specs.Built.{argumentsOf, firstGiven, secondGiven, opcodeGiven, sizeGiven};
 ghost use Rattle.records.specs.Decoded.{partAt, factorAt, farAt, explicitAt, codeAt, registerOperand, addressOperand, operandAt};
 ghost use Rattle.records.specs.Decoded.{givenAt, argumentsAt};
-ghost use Rattle.records.specs.Decoded.{readCall, writeCall, addressCall, testCall, setCall, computeCall, callOf, controlEvent};
-ghost use Rattle.records.specs.Decoded.{videoEvent, eventAt};
+ghost use Rattle.records.specs.Decoded.{readCall, writeCall, addressCall, testCall, setCall, computeCall};
+ghost use Rattle.records.specs.Decoded.{operationCall, callOf, controlEvent, videoEvent, eventAt};
 
 // A base or an index of a record, or a word that names none.
 pub(crate) enum Part {
@@ -374,6 +376,25 @@ fn compute_flags(header: Header) -> SomeCall
     }
 }
 
+fn operate(header: Header) -> SomeCall
+    ensures { λ r. ⌜ r ≡ operationCall header ⌝ }
+{
+    let named = operation_at(header.c);
+    let SomeOperation::Present(operation) = named else {
+        return SomeCall::Malformed;
+    };
+    let found = size_at(header.size);
+    let SomeSize::Present(size) = found else {
+        return SomeCall::Malformed;
+    };
+    SomeCall::Is(Call::Arithmetic {
+        operation,
+        size,
+        first: header.a,
+        second: header.b,
+    })
+}
+
 // The tabled call of a header.
 pub fn decode_call(header: Header) -> SomeCall
     ensures { λ r. ⌜ r ≡ callOf header ⌝ }
@@ -390,6 +411,7 @@ pub fn decode_call(header: Header) -> SomeCall
         8 => test_flag(header),
         9 => set_flag(header),
         10 => compute_flags(header),
+        12 => operate(header),
         _ => SomeCall::Malformed,
     }
 }

@@ -11,11 +11,13 @@ use Rattle.instruction_set.specs.declared.Register.{Register}
 use Rattle.instruction_set.specs.declared.SomeRegister.{SomeRegister}
 use Rattle.instruction_set.specs.declared.SomeRegister.the-variants.{Absent, Present}
 use Rattle.instruction_set.proofs.Bounds.{parent-below, reads-within, rewrites-within}
+use Rattle.arithmetic.specs.declared.Operation.{Operation}
+use Rattle.arithmetic.specs.declared.Operation.the-variants.{Add, AddWithCarry, Subtract, SubtractWithBorrow, Compare}
 use Rattle.calls.specs.declared.Call.{Call}
 use Rattle.calls.specs.declared.Call.the-variants.{ReadOperand, WriteOperand, EffectiveAddress, Push, Pop, ReadMemory, WriteMemory}
-use Rattle.calls.specs.declared.Call.the-variants.{TestFlag, SetFlag, ComputeFlags}
+use Rattle.calls.specs.declared.Call.the-variants.{TestFlag, SetFlag, ComputeFlags, Arithmetic}
 use Rattle.rows.specs.Rows.{spans, none, rsp, cr3, nothing, readSpan, rewriteSpan, partSpan, flagSpan, readsOf, rewritesOf, inSpans}
-use Rattle.rows.specs.Rows.{Inside}
+use Rattle.rows.specs.Rows.{operationReads, Inside}
 use Rattle.rows.specs.declared.Span.{Span}
 use Rattle.rows.specs.declared.Spans.{Spans}
 use Rattle.rows.proofs.Within.{in-out, flag-below}
@@ -40,6 +42,13 @@ no-inside = record { one = omega arith; two = omega arith; three = omega arith; 
 one-inside : (s : Span) → Ends s → Inside (spans s none none none)
 one-inside s h = record { one = h; two = omega arith; three = omega arith; four = omega arith }
 
+operation-inside : (o : Operation) → Inside (operationReads o)
+operation-inside Add = no-inside
+operation-inside AddWithCarry = one-inside _ (omega arith)
+operation-inside Subtract = no-inside
+operation-inside SubtractWithBorrow = one-inside _ (omega arith)
+operation-inside Compare = no-inside
+
 pub reads-inside : (c : Call) → Inside (readsOf c)
 unfolding readsOf
 reads-inside (ReadOperand (arg.Register r) z) = one-inside (readSpan r) (read-ends r)
@@ -61,6 +70,7 @@ reads-inside (WriteMemory a) = one-inside cr3 (omega arith)
 reads-inside (TestFlag f) = one-inside (flagSpan f) (omega (arith, flag-below f))
 reads-inside (SetFlag f b) = no-inside
 reads-inside (ComputeFlags x z) = no-inside
+reads-inside (Arithmetic o z a b) = operation-inside o
 
 pub rewrites-inside : (c : Call) → Inside (rewritesOf c)
 unfolding rewritesOf
@@ -76,6 +86,7 @@ rewrites-inside (WriteMemory a) = no-inside
 rewrites-inside (TestFlag f) = no-inside
 rewrites-inside (SetFlag f b) = one-inside (flagSpan f) (omega (arith, flag-below f))
 rewrites-inside (ComputeFlags x z) = record { one = omega arith; two = omega arith; three = omega arith; four = omega arith }
+rewrites-inside (Arithmetic o z a b) = record { one = omega arith; two = omega arith; three = omega arith; four = omega arith }
 
 -- so that no other place is in a row
 pub none-above : (s : Spans) (p : ℕ) → Inside s → 182 ≤ p → inSpans s p ≡ false

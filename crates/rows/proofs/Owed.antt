@@ -4,43 +4,51 @@
 use mathlib.Core.Bool.{Bool, true, false, _||_}
 use mathlib.Core.List.{List, [], _∷_}
 use mathlib.Core.Path.{_≡_, refl, ap, _∙_}
-use Prim.Native.Nat.{ℕ, _+_, _%_, _^_, _<_}
+use Prim.Native.Nat.{ℕ, _+_, _*_, _%_, _^_, _<_}
 use native.Mathlib.Nat.{mod-lt}
 use native.Mathlib.Omega.{arith}
 use lib.IntN.{ℤ}
 use lib.ListN.{length}
 use lib.Pow.{pow-pos}
-use Rattle.utils.specs.Outcome.{gives, refuses}
+use Rattle.utils.specs.Outcome.{Outcome, gives, refuses}
+use Rattle.utils.specs.Word.{extend}
+use Rattle.instruction_set.specs.Sizes.{bytesOf}
 use Rattle.instruction_set.specs.declared.ArgumentSize.{ArgumentSize}
 use Rattle.instruction_set.specs.declared.ArgumentSize.the-variants.{Bit64}
-use Rattle.instruction_set.specs.declared.Flags.the-variants.{Parity, Zero, Sign}
+use Rattle.instruction_set.specs.declared.Flags.the-variants.{Carry, Parity, Zero, Sign}
 use Rattle.instruction_set.specs.declared.InstructionArgument.{InstructionArgument}
 use Rattle.instruction_set.specs.declared.InstructionArgument.the-variants as arg
 use Rattle.instruction_set.specs.declared.SomeRegister.{SomeRegister}
 use Rattle.instruction_set.specs.declared.SomeScale.{SomeScale}
+use Rattle.arithmetic.specs.Sums.{carryTaken, workedOf, computedOf}
+use Rattle.arithmetic.specs.declared.Operation.{Operation}
+use Rattle.arithmetic.specs.declared.Operation.the-variants.{Add, AddWithCarry, Subtract, SubtractWithBorrow, Compare}
+use Rattle.arithmetic.specs.declared.Sum.{Sum}
 use Rattle.store.specs.Store.{Store}
 use Rattle.machine_state.specs.Address.{addressOf}
-use Rattle.machine_state.specs.Answers.{word, truth}
+use Rattle.machine_state.specs.Answers.{Value, word, truth, outcomeOf}
 use Rattle.machine_state.specs.Flagged.{flagIn, setFlag, computeFlags}
 use Rattle.machine_state.specs.Machine.{readReg, writeReg, eventOf}
 use Rattle.machine_state.specs.Memory.{rsp as rspOf, cr3 as cr3Of, passed, readMemory, writeMemory, loaded, storedAt, readOperand}
 use Rattle.machine_state.specs.Memory.{writeOperand, below, pushed, popped}
+use Rattle.machine_state.specs.Operating.{answerOf, operated}
 use Rattle.machine_state.specs.declared.Event.the-variants.{Quiet}
 use Rattle.machine_state.specs.declared.MachineState.{MachineState}
 use Rattle.calls.specs.Step.{step}
 use Rattle.calls.specs.declared.Call.{Call}
 use Rattle.calls.specs.declared.Call.the-variants.{ReadOperand, WriteOperand, EffectiveAddress, Push, Pop, ReadMemory, WriteMemory}
-use Rattle.calls.specs.declared.Call.the-variants.{TestFlag, SetFlag, ComputeFlags}
+use Rattle.calls.specs.declared.Call.the-variants.{TestFlag, SetFlag, ComputeFlags, Arithmetic}
 use Rattle.rows.specs.Places.{Sound, does, reads, rewrites, reachesMemory, placeIn, storeIn, SoundState}
-use Rattle.rows.specs.Rows.{rsp, cr3, partSpan, flagSpan, rewriteSpan, readsOf, rewritesOf, reaches, inSpan, inSpans}
+use Rattle.rows.specs.Rows.{rsp, cr3, partSpan, flagSpan, rewriteSpan, operationReads, threeFlags, readsOf, rewritesOf, reaches}
+use Rattle.rows.specs.Rows.{inSpan, inSpans}
 use Rattle.rows.specs.declared.Spans.{Spans}
 use Rattle.rows.proofs.Forgotten.{Owed}
 use Rattle.rows.proofs.Places.{Agrees, register-same, parent-same, sum-same, flag-same, AgreeWhere, same-where, register-renews}
-use Rattle.rows.proofs.Places.{flag-renews, computed-renews}
-use Rattle.rows.proofs.Shapes.{rewritten, Agree, Owes, one-span, answers-only, changes-only, Same, by-memory, read-alike}
+use Rattle.rows.proofs.Places.{by-reading, flag-renews, computed-renews, flagged, flagged-renews}
+use Rattle.rows.proofs.Shapes.{rewritten, Agree, Owes, one-span, by-itself, answers-only, changes-only, Same, by-memory, read-alike}
 use Rattle.rows.proofs.Shapes.{write-alike, load-alike, store-alike, at-alike, load-still, store-still, at-still, lent-back}
 use Rattle.rows.proofs.Shapes.{StackAccess, StackAlike, stack}
-use Rattle.rows.proofs.Within.{in-one, in-two, in-three, three-only}
+use Rattle.rows.proofs.Within.{in-one, in-two, in-three, three-only, fiveInTurn, five-flags}
 
 -- ---- what the rows read
 module _ (b i : SomeRegister) (k : SomeScale) (d : ℤ) (m n : MachineState) where
@@ -116,9 +124,7 @@ three false true c = refl
 three false false true = refl
 three false false false = refl
 
-three-flags : (p : ℕ)
-    → rewritten (ComputeFlags 0 Bit64) p ≡ ((inSpan (flagSpan Zero) p || inSpan (flagSpan Sign) p) || inSpan (flagSpan Parity) p)
-unfolding rewritesOf
+pub three-flags : (p : ℕ) → inSpans threeFlags p ≡ ((inSpan (flagSpan Zero) p || inSpan (flagSpan Sign) p) || inSpan (flagSpan Parity) p)
 three-flags p =
     three-only (flagSpan Parity) (flagSpan Zero) (flagSpan Sign) p
     ∙ three (inSpan (flagSpan Parity) p) (inSpan (flagSpan Zero) p) (inSpan (flagSpan Sign) p)
@@ -160,6 +166,32 @@ address-owes (arg.EffectiveAddress b i k d) =
     (λ m s l. refl) refl
     (λ m n a. ap passed (address-alike b i k d m n (readsOf (EffectiveAddress (arg.EffectiveAddress b i k d))) refl refl a))
 
+-- ---- an operation on two given values: it turns on the carry that it takes, which its row reads
+carry-alike : (o : Operation) (m n : MachineState) → AgreeWhere (inSpans (operationReads o)) m n
+    → carryTaken o (flagIn m Carry) ≡ carryTaken o (flagIn n Carry)
+carry-alike Add m n h = refl
+carry-alike AddWithCarry m n h = flag-same m n Carry (λ p q. h p (in-one (operationReads AddWithCarry) p q))
+carry-alike Subtract m n h = refl
+carry-alike SubtractWithBorrow m n h = flag-same m n Carry (λ p q. h p (in-one (operationReads SubtractWithBorrow) p q))
+carry-alike Compare m n h = refl
+
+operation-owes : (o : Operation) (z : ArgumentSize) (a b : ℕ) → Owes (Arithmetic o z a b)
+unfolding step operated computedOf readsOf rewritesOf
+operation-owes o z a b =
+    by-itself (Arithmetic o z a b) Quiet (λ m. flagged z (worked (taken m)) m) (λ m. says (taken m)) (λ m s l. refl)
+    (same-where _ _ fiveInTurn (rewritten (Arithmetic o z a b)) five-flags
+    (by-reading _ taken (λ c. flagged z (worked c)) fiveInTurn (carry-alike o) (λ c. flagged-renews _ z (worked c))))
+    (λ m n h. ap says (carry-alike o m n h))
+  where
+    taken : MachineState → Bool
+    taken m = carryTaken o (flagIn m Carry)
+
+    worked : Bool → Sum
+    worked c = workedOf o (8 * bytesOf z) (a % 2 ^ (8 * bytesOf z)) (b % 2 ^ (8 * bytesOf z)) c
+
+    says : Bool → Outcome Value
+    says c = outcomeOf (answerOf o (extend (8 * bytesOf z) (worked c .value)))
+
 -- ---- every call pays: the row's reads are enough for its reply, and its rewrites are all that it changes
 pub owes : (c : Call) → Owes c
 unfolding step pushed popped readMemory writeMemory loaded readsOf rewritesOf reaches
@@ -183,6 +215,7 @@ owes (SetFlag f b) =
 owes (ComputeFlags x z) =
     changes-only (ComputeFlags x z) Quiet (λ m. computeFlags m x z) (λ m s l. refl)
     (same-where _ (λ m. computeFlags m x z) _ (rewritten (ComputeFlags x z)) three-flags (computed-renews _ x z))
+owes (Arithmetic o z a b) = operation-owes o z a b
 
 -- what the theorem asks of the calls
 pub owed : Owed reads rewrites reachesMemory does storeIn placeIn SoundState

@@ -35,16 +35,18 @@ use Rattle.fields.specs.FlagBits.{boolBit, bitSet, putFlag, signIn, evenOnes}
 use Rattle.fields.specs.Parts.{writeOf}
 use Rattle.fields.proofs.FlagLaws.{bits-kept, flag-word}
 use Rattle.fields.proofs.PartLaws.{write-part-word}
+use Rattle.arithmetic.specs.Sums.{flagsOf}
+use Rattle.arithmetic.specs.declared.Sum.{Sum}
 use Rattle.machine_state.specs.Address.{baseOf, sumOf}
 use Rattle.machine_state.specs.Flagged.{flagIn, setFlag, computeFlags}
-use Rattle.machine_state.specs.Machine.{parentAt, withRegs, readReg, writeReg}
+use Rattle.machine_state.specs.Machine.{parentAt, withRegs, withFlags, readReg, writeReg}
 use Rattle.machine_state.specs.Memory.{withRsp}
 use Rattle.machine_state.specs.declared.MachineState.{MachineState}
 use Rattle.machine_state.proofs.Lanes.{read-same, write-in, write-out}
 use Rattle.rows.specs.Places.{bitAt, bitsAt, place, Sound}
 use Rattle.rows.specs.Rows.{parent, readSpan, rewriteSpan, partSpan, flagPlace, flagSpan, inSpan}
 use Rattle.rows.specs.declared.Span.{Span}
-use Rattle.rows.proofs.Within.{in-low, in-high, in-yes, in-no, flag-from}
+use Rattle.rows.proofs.Within.{in-low, in-high, in-yes, in-no, fiveInTurn, flag-from}
 
 -- ---- places
 pub place-lane : (m : MachineState) (p : ℕ) → p < 176 → place m p ≡ lane (p % 8) (parentAt m (p / 8))
@@ -163,6 +165,16 @@ and-then r f g w v a b =
         first : (x y : Bool) → y ≡ false → (x || y) ≡ true → x ≡ true
         first true y t e = refl
         first false y t e = sym t ∙ e
+
+-- a change that turns on a test of the machine, which the places where r holds decide
+pub by-reading : (r : ℕ → Bool) (test : MachineState → Bool) (g : Bool → MachineState → MachineState) (w : ℕ → Bool)
+    → ((m n : MachineState) → AgreeWhere r m n → test m ≡ test n) → ((b : Bool) → Renews r (g b) w) → Renews r (λ m. g (test m) m) w
+by-reading r test g w same a =
+    record {
+      good = λ m h. a (test m) .good m h;
+      keeps = λ m p h e. a (test m) .keeps m p h e;
+      renews = λ m n p h k q e. a (test m) .renews m n p h k q e ∙ ap (λ (b : Bool). place (g b n) p) (same m n q);
+    }
 
 -- a register
 module _ (r : Register) (v : ℕ) where
@@ -314,3 +326,13 @@ then-flag {by} {f} {w} g b a = and-then by f (λ m. setFlag m g b) w (inSpan (fl
 pub computed-renews : (by : ℕ → Bool) (x : ℕ) (z : ArgumentSize)
     → Renews by (λ m. computeFlags m x z) (λ p. (inSpan (flagSpan Zero) p || inSpan (flagSpan Sign) p) || inSpan (flagSpan Parity) p)
 computed-renews by x z = then-flag Parity (evenOnes x) (then-flag Sign (signIn z x) (flag-renews Zero (eqb x 0) by))
+
+-- an operation sets five, by its sum or difference
+abbrev pub flagged : ArgumentSize → Sum → MachineState → MachineState
+flagged z s m = withFlags m (flagsOf (m .rflags) z s)
+
+pub flagged-renews : (by : ℕ → Bool) (z : ArgumentSize) (s : Sum) → Renews by (flagged z s) fiveInTurn
+unfolding flagsOf
+flagged-renews by z s =
+    then-flag Overflow (s .overflow) (then-flag Sign (signIn z (s .value)) (then-flag Zero (eqb (s .value) 0)
+    (then-flag Parity (evenOnes (s .value)) (flag-renews Carry (s .carry) by))))

@@ -1,16 +1,17 @@
 -- Spans of places: when a place stands in one, and when in one of four. By the two tests that `inSpan` makes. Assumes nothing.
-use mathlib.Core.Path.{_≡_, _∙_}
+use mathlib.Core.Path.{_≡_, sym, ap, _∙_}
 use mathlib.Core.Logic.{_⊎_, inl, inr, ⊎-elim}
-use mathlib.Core.Bool.{true, false, _||_, and-false, or-false}
+use mathlib.Core.Bool.{Bool, true, false, _||_, and-false, or-false}
 use Prim.Native.Nat.{ℕ, _+_, _≤_, _<_}
 use native.Mathlib.Omega.{arith}
 use lib.Dec.{ltb, leb, ltb→lt, leb→le}
 use borrow.Author.Tests.{ltb-true, ltb-false, leb-true, leb-false, lt-ltb, le-ltb, le-leb, lt-leb}
-use Rattle.utils.proofs.Bools.{and-left, and-right, and-none, or-left, or-right}
+use Rattle.utils.proofs.Bools.{tested, and-left, and-right, and-none, or-left, or-right}
 use Rattle.instruction_set.specs.declared.Flags.{Flags}
+use Rattle.instruction_set.specs.declared.Flags.the-variants.{Carry, Parity, Zero, Sign, Overflow}
 use Rattle.instruction_set.proofs.Arms.{all}
 use Rattle.instruction_set.proofs.Flags.{enum}
-use Rattle.rows.specs.Rows.{flagPlace, spans, none, nothing, inSpan, inSpans}
+use Rattle.rows.specs.Rows.{span, spans, none, nothing, flagPlace, flagSpan, fiveFlags, inSpan, inSpans}
 use Rattle.rows.specs.declared.Span.{Span}
 use Rattle.rows.specs.declared.Spans.{Spans}
 
@@ -69,6 +70,48 @@ nothing-in p = one-only none p ∙ none-in p
 pub three-only : (a b c : Span) (p : ℕ) → inSpans (spans a b c none) p ≡ (inSpan a p || (inSpan b p || inSpan c p))
 unfolding inSpans
 three-only a b c p = simp (none-in p, or-false)
+
+-- a span one place longer
+span-next : (a n p : ℕ) → inSpan (span a (n + 1)) p ≡ (inSpan (span a n) p || inSpan (span (a + n) 1) p)
+span-next a n p = go (tested (inSpan (span a n) p)) (tested (inSpan (span (a + n) 1) p))
+  where
+    go : (inSpan (span a n) p ≡ true) ⊎ (inSpan (span a n) p ≡ false)
+        → (inSpan (span (a + n) 1) p ≡ true) ⊎ (inSpan (span (a + n) 1) p ≡ false)
+        → inSpan (span a (n + 1)) p ≡ (inSpan (span a n) p || inSpan (span (a + n) 1) p)
+    go (inl x) d =
+        let lo = in-low (span a n) p x in
+        let hi = in-high (span a n) p x in
+        in-yes (span a (n + 1)) p (omega arith) (omega arith) ∙ sym (or-left (inSpan (span a n) p) (inSpan (span (a + n) 1) p) x)
+    go (inr x) (inl y) =
+        let lo = in-low (span (a + n) 1) p y in
+        let hi = in-high (span (a + n) 1) p y in
+        in-yes (span a (n + 1)) p (omega arith) (omega arith) ∙ sym (or-right (inSpan (span a n) p) (inSpan (span (a + n) 1) p) y)
+    go (inr x) (inr y) =
+        in-out (span a (n + 1)) p (beyond (in-no (span a n) p x) (in-no (span (a + n) 1) p y)) ∙ sym (rw (x, y))
+      where
+        beyond : (p < a) ⊎ (a + n ≤ p) → (p < a + n) ⊎ (a + n + 1 ≤ p) → (p < a) ⊎ (a + (n + 1) ≤ p)
+        beyond (inl l) d = inl l
+        beyond (inr l) (inl k) = absurd (omega arith)
+        beyond (inr l) (inr k) = inr (omega arith)
+
+-- the five flags that an operation rewrites, one after the other
+abbrev pub orFlag : Flags → (ℕ → Bool) → ℕ → Bool
+orFlag f w p = w p || inSpan (flagSpan f) p
+
+abbrev fourInTurn : ℕ → Bool
+fourInTurn = orFlag Sign (orFlag Zero (orFlag Parity (inSpan (flagSpan Carry))))
+
+abbrev pub fiveInTurn : ℕ → Bool
+fiveInTurn = orFlag Overflow fourInTurn
+
+pub five-flags : (p : ℕ) → inSpans fiveFlags p ≡ fiveInTurn p
+unfolding inSpans
+five-flags p = simp (none-in p, or-false) (ap (λ (b : Bool). b || inSpan (flagSpan Overflow) p) four)
+  where
+    four : inSpan (span 176 4) p ≡ fourInTurn p
+    four =
+        span-next 176 3 p ∙ ap (λ (b : Bool). b || inSpan (flagSpan Sign) p)
+        (span-next 176 2 p ∙ ap (λ (b : Bool). b || inSpan (flagSpan Zero) p) (span-next 176 1 p))
 
 -- the flags' places
 pub flag-from : (f : Flags) → 176 ≤ flagPlace f

@@ -1,5 +1,5 @@
--- Document 01's table, "Places and calls": which places each call reads and rewrites, and whether it reaches memory. "Rows hold whether
--- or not the call is refused." What a call does (`step` of crate calls) knows nothing of this; the rows are proved of it in
+-- Document 01's table, "Places and calls", and 02's calls: which places each call reads and rewrites, and whether it reaches memory. "Rows
+-- hold whether or not the call is refused." What a call does (`step` of crate calls) knows nothing of this; the rows are proved of it in
 -- proofs/Owed.antt.
 use mathlib.Core.Bool.{Bool, true, false, _&&_, _||_}
 use Prim.Native.Nat.{ℕ, _+_, _*_, _≤_}
@@ -12,9 +12,11 @@ use Rattle.instruction_set.specs.declared.InstructionArgument.the-variants as a
 use Rattle.instruction_set.specs.declared.Register.{Register}
 use Rattle.instruction_set.specs.declared.SomeRegister.{SomeRegister}
 use Rattle.instruction_set.specs.declared.SomeRegister.the-variants.{Absent, Present}
+use Rattle.arithmetic.specs.declared.Operation.{Operation}
+use Rattle.arithmetic.specs.declared.Operation.the-variants.{Add, AddWithCarry, Subtract, SubtractWithBorrow, Compare}
 use Rattle.calls.specs.declared.Call.{Call}
 use Rattle.calls.specs.declared.Call.the-variants.{ReadOperand, WriteOperand, EffectiveAddress, Push, Pop, ReadMemory, WriteMemory}
-use Rattle.calls.specs.declared.Call.the-variants.{TestFlag, SetFlag, ComputeFlags}
+use Rattle.calls.specs.declared.Call.the-variants.{TestFlag, SetFlag, ComputeFlags, Arithmetic}
 use Rattle.rows.specs.declared.Span.{Span}
 use Rattle.rows.specs.declared.Spans.{Spans}
 
@@ -82,6 +84,22 @@ operandRewrites (arg.Register r) = spans (rewriteSpan r) none none none
 operandRewrites (arg.Immediate v) = nothing
 operandRewrites (arg.EffectiveAddress b i k d) = nothing
 
+-- 02, No. 2: "those with carry or borrow read Carry, all rewrite the five flags"
+abbrev pub operationReads : Operation → Spans
+operationReads Add = nothing
+operationReads AddWithCarry = spans (flagSpan Carry) none none none
+operationReads Subtract = nothing
+operationReads SubtractWithBorrow = spans (flagSpan Carry) none none none
+operationReads Compare = nothing
+
+-- "`compute_flags` rewrites Parity, Zero, Sign"
+abbrev pub threeFlags : Spans
+threeFlags = spans (flagSpan Parity) (flagSpan Zero) (flagSpan Sign) none
+
+-- Carry, Parity, Zero and Sign, four places from Carry's on; and Overflow
+abbrev pub fiveFlags : Spans
+fiveFlags = spans (span (flagPlace Carry) 4) (flagSpan Overflow) none none
+
 -- "push, pop: read RSP and CR3, rewrite RSP"; "read memory, write memory: read CR3"; "test flag reads it; set flag rewrites it;
 -- `compute_flags` rewrites Parity, Zero, Sign"
 unfoldable pub readsOf : Call → Spans
@@ -95,6 +113,7 @@ readsOf (WriteMemory a) = spans cr3 none none none
 readsOf (TestFlag f) = spans (flagSpan f) none none none
 readsOf (SetFlag f b) = nothing
 readsOf (ComputeFlags x z) = nothing
+readsOf (Arithmetic o z a b) = operationReads o
 
 unfoldable pub rewritesOf : Call → Spans
 rewritesOf (ReadOperand a z) = nothing
@@ -106,7 +125,8 @@ rewritesOf (ReadMemory a) = nothing
 rewritesOf (WriteMemory a) = nothing
 rewritesOf (TestFlag f) = nothing
 rewritesOf (SetFlag f b) = spans (flagSpan f) none none none
-rewritesOf (ComputeFlags x z) = spans (flagSpan Parity) (flagSpan Zero) (flagSpan Sign) none
+rewritesOf (ComputeFlags x z) = threeFlags
+rewritesOf (Arithmetic o z a b) = fiveFlags
 
 -- "All calls but those on registers, immediates, addresses and flags reach memory"
 abbrev pub operandReaches : InstructionArgument → Bool
@@ -125,6 +145,7 @@ reaches (WriteMemory a) = true
 reaches (TestFlag f) = false
 reaches (SetFlag f b) = false
 reaches (ComputeFlags x z) = false
+reaches (Arithmetic o z a b) = false
 
 -- place p stands in the span, or in one of the four
 unfoldable pub inSpan : Span → ℕ → Bool

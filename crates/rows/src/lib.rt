@@ -1,8 +1,9 @@
-// What each call reads and rewrites: the rows of 01's table. A place is one byte of a register or one flag; a call's row is the spans of places that
-// it reads, and of those that it rewrites. Below is calls, which says what each call does; this crate proves the rows of that, and from them the
-// theorem on forgotten readers for every list of calls. Above are exposed, which reports the places that a list takes for granted, and promises,
-// which states demand 3.
-// Document 01: "Places and calls".
+// What each call reads and rewrites: the rows of the table, of 01's calls and of 02's. A place is one byte of a register or one flag; a call's row is
+// the spans of places that it reads, and of those that it rewrites. Below is calls, which says what each call does; this crate proves the rows of
+// that, and from them the theorem on forgotten readers for every list of calls. Above are exposed, which reports the places that a list takes for
+// granted, and promises, which states demand 3.
+// Document 01: "Places and calls"; document 02: No. 2.
+use arithmetic::Operation;
 use calls::Call;
 use instruction_set::Flags;
 use instruction_set::InstructionArgument;
@@ -12,7 +13,7 @@ use instruction_set::SomeRegister;
 ghost use mathlib.Core.Path.{_≡_};
 ghost use Rattle.instruction_set.specs.Registers.{firstOf, readsOf as lanesRead, rewritesOf as lanesRewritten};
 ghost use Rattle.rows.specs.Rows.{flagPlace, spans, none, readSpan, rewriteSpan, partSpan, flagSpan, operandReads, addressReads};
-ghost use Rattle.rows.specs.Rows.{operandRewrites, readsOf, rewritesOf};
+ghost use Rattle.rows.specs.Rows.{operandRewrites, operationReads, fiveFlags, readsOf, rewritesOf};
 
 // count places from start on
 pub struct Span {
@@ -201,6 +202,30 @@ fn operand_rewrites(argument: InstructionArgument) -> Spans
     }
 }
 
+// Those with carry or borrow read Carry.
+fn operation_reads(operation: Operation) -> Spans
+    ensures { λ r. ⌜ r ≡ operationReads operation ⌝ }
+{
+    match operation {
+        Operation::Add => no_spans(),
+        Operation::AddWithCarry => one_span(flag_span(Flags::Carry)),
+        Operation::Subtract => no_spans(),
+        Operation::SubtractWithBorrow => one_span(flag_span(Flags::Carry)),
+        Operation::Compare => no_spans(),
+    }
+}
+
+// Carry, Parity, Zero and Sign stand side by side; Direction stands before Overflow.
+fn five_flags() -> Spans
+    ensures { λ r. ⌜ r ≡ fiveFlags ⌝ }
+{
+    let four = Span {
+        start: flag_place(Flags::Carry),
+        count: 4,
+    };
+    two_spans(four, flag_span(Flags::Overflow))
+}
+
 // What a call reads.
 pub fn reads_of(call: Call) -> Spans
     ensures { λ r. ⌜ r ≡ readsOf call ⌝ }
@@ -228,6 +253,12 @@ pub fn reads_of(call: Call) -> Spans
         Call::TestFlag { flag } => one_span(flag_span(flag)),
         Call::SetFlag { flag: _, value: _ } => no_spans(),
         Call::ComputeFlags { result: _, size: _ } => no_spans(),
+        Call::Arithmetic {
+            operation,
+            size: _,
+            first: _,
+            second: _,
+        } => operation_reads(operation),
     }
 }
 
@@ -257,19 +288,16 @@ pub fn rewrites_of(call: Call) -> Spans
         Call::TestFlag { flag: _ } => no_spans(),
         Call::SetFlag { flag, value: _ } => one_span(flag_span(flag)),
         Call::ComputeFlags { result: _, size: _ } => Spans {
-            one: Span {
-                start: 177,
-                count: 1,
-            },
-            two: Span {
-                start: 178,
-                count: 1,
-            },
-            three: Span {
-                start: 179,
-                count: 1,
-            },
+            one: flag_span(Flags::Parity),
+            two: flag_span(Flags::Zero),
+            three: flag_span(Flags::Sign),
             four: Span { start: 0, count: 0 },
         },
+        Call::Arithmetic {
+            operation: _,
+            size: _,
+            first: _,
+            second: _,
+        } => five_flags(),
     }
 }

@@ -157,4 +157,4 @@ module _ (h : Header) (m : MachineState) (s : Store) (l : List ℕ) {c c′ : Ca
 
   pub carried-one : CarriesOut h m s l c a x → CarriesOut h m s l c′ b y → One c c′ a b x y
   unfolding CarriesOut
-  carried-one = either (ltb (h .kind) 11) called-one (either (eqb (h .kind) 11) leaves-one stays-one)
+  carried-one = either (eqb (h .kind) 11) leaves-one (either (ltb (h .kind) 16) called-one stays-one)

@@ -62,16 +62,16 @@ pub record NoCall (m : MachineState) (s : Store) (l : List ℕ) (c : Carried) (s
   pub store : s′ ≡ s
   pub lent : l′ ≡ l
 
--- a call of 01's table
+-- a tabled call
 unfoldable pub Called : Header → MachineState → Store → List ℕ → Carried → Store → List ℕ → Type 0
 Called h m s l c s′ l′ = withCall (NoCall m s l c s′ l′) (callOf h) (λ k. Leaves (step k m s l) (length l) c s′ l′)
 
--- kinds up to 10 are such calls, 11 is the read of one byte, all others leave the machine and the count; s′ is the store afterwards, with
--- the count in c
+-- 11 is the read of one byte, the other kinds up to 15 are such calls or no record, all others leave the machine and the count; s′ is the
+-- store afterwards, with the count in c
 unfoldable pub CarriesOut : Header → MachineState → Store → List ℕ → Carried → Store → List ℕ → Type 0
 CarriesOut h m s l c s′ l′ =
-    cond (ltb (h .kind) 11) (Called h m s l c s′ l′)
-    (cond (eqb (h .kind) 11) (Leaves (beside l (loaded m s (h .a) Bit8)) 0 c s′ l′) (Stays h m s l c s′ l′))
+    cond (eqb (h .kind) 11) (Leaves (beside l (loaded m s (h .a) Bit8)) 0 c s′ l′)
+    (cond (ltb (h .kind) 16) (Called h m s l c s′ l′) (Stays h m s l c s′ l′))
 
 -- ---- what only private functions' contracts cite
 abbrev pub carriedBy : Answered → ℕ → Carried

@@ -86,7 +86,7 @@ pub fn done(machine: MachineState, used: usize) -> Carried
     still(machine, used, gave(0))
 }
 
-// A call of 01's table.
+// A tabled call.
 fn tabled(
     header: Header,
     machine: MachineState,
@@ -152,11 +152,11 @@ pub fn carry_out(
     ensures { λ r. ⌜ CarriesOut header machine (storeOf (now (dir .entry)) (now (bytes .entry)) used) (now (lent .entry))
         r (storeOf (now (dir .exit)) (now (bytes .exit)) (r .used)) (now (lent .exit)) ⌝ }
 {
-    if header.kind < 11 {
-        return tabled(header, machine, lent, dir, bytes, used);
-    }
     if header.kind == 11 {
         return answered(machine.mem_read_byte(header.a, dir, bytes, used), 0);
+    }
+    if header.kind < 16 {
+        return tabled(header, machine, lent, dir, bytes, used);
     }
     still(machine, used, told(header, machine, lent, dir, bytes, used))
 }

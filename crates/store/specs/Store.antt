@@ -105,6 +105,10 @@ unfoldable pub absentOf : List ℕ → List ℕ → ℕ
 absentOf l [] = 0
 absentOf l (g ∷ gs) = lack (foundIn l g) + absentOf l gs
 
+-- n bytes from physical p on find an unused slot for each absent page that they touch: 01's refusal 6, turned round
+abbrev pub slotsSuffice : Store → ℕ → ℕ → Bool
+slotsSuffice s p n = leb (absentOf (live s) (touched p n)) (unused s)
+
 -- how many of the bytes that are left of an access lie in the page it has reached, from byte off on: to the page's end, or all of them
 unfoldable pub partLength : ℕ → ℕ → ℕ
 partLength off left = cond (ltb left (4096 - off)) left (4096 - off)

@@ -1,13 +1,14 @@
--- Sign extension: it looks at the low n bits alone, none read 0, and 64 bits are the word itself. Assumes nothing.
+-- Sign extension: it looks at the low n bits alone and keeps them, none read 0, and 64 bits are the word itself. Assumes nothing.
 use mathlib.Core.Bool.{Bool, true, false, cond}
 use mathlib.Core.Path.{_≡_, refl, sym, ap, _∙_}
 use Prim.Native.Nat.{ℕ, _+_, _-_, _*_, _/_, _%_, _^_, _<_, _≤_}
-use native.Mathlib.Nat.{div-one, mod-lt, mod-mod, mod-one, mod-eq-of-lt}
+use native.Mathlib.Nat.{div-one, mod-lt, mod-mod, mod-one, mod-eq-of-lt, mul-add-mod-self-right}
 use native.Mathlib.Omega.{arith}
 use borrow.Author.Tests.{lt-ltb, le-ltb}
 use lib.Dec.{ltb}
-use lib.Pow.{pow-add, pow-pos, pow-lt, pow-mono, mod-pow-add}
+use lib.Pow.{pow-pos, pow-lt, pow-mono, mod-pow-add, high-ones}
 use Rattle.utils.specs.Word.{cut, extend}
+use Rattle.utils.proofs.Powers.{twice}
 
 pub extend-none : (x : ℕ) → extend 0 x ≡ 0
 unfolding extend
@@ -62,7 +63,20 @@ module _ (n x : ℕ) (some : 1 ≤ n) where
   extend-set h ne =
       let b : x / 2 ^ (n - 1) % 2 ≡ 1 = omega (arith, ne) in
       let l : x % 2 ^ n ≡ 2 ^ (n - 1) + x % 2 ^ (n - 1) = low-bits ∙ rw b (omega arith) in
-      let e : n ≡ 1 + (n - 1) = omega arith in
-      let d : 2 ^ n ≡ 2 * 2 ^ (n - 1) = ap (λ (m : ℕ). 2 ^ m) e ∙ pow-add 2 1 (n - 1) in
+      let d = twice n some in
       let s : 2 ^ n ≤ 2 ^ 64 = pow-mono h in
       rw (l, le-ltb (2 ^ (n - 1) + x % 2 ^ (n - 1)) (2 ^ (n - 1)) (omega arith)) (omega arith)
+
+-- a value extended from n bits has those bits
+pub extend-back : (n x : ℕ) → n ≤ 64 → extend n x % 2 ^ n ≡ x % 2 ^ n
+unfolding extend
+extend-back n x h = go (ltb (x % 2 ^ n) (2 ^ (n - 1)))
+  where
+    ones : 2 ^ 64 - 2 ^ n ≡ (2 ^ (64 - n) - 1) * 2 ^ n
+    ones = let e : 64 ≡ (64 - n) + n = omega arith in ap (λ (k : ℕ). 2 ^ k - 2 ^ n) e ∙ high-ones (64 - n) n
+
+    go : (b : Bool) → cond b (x % 2 ^ n) (x % 2 ^ n + (2 ^ 64 - 2 ^ n)) % 2 ^ n ≡ x % 2 ^ n
+    go true = mod-mod x (2 ^ n)
+    go false =
+        let e : x % 2 ^ n + (2 ^ 64 - 2 ^ n) ≡ (2 ^ (64 - n) - 1) * 2 ^ n + x % 2 ^ n = omega (arith, ones) in
+        ap (λ (z : ℕ). z % 2 ^ n) e ∙ mul-add-mod-self-right (2 ^ (64 - n) - 1) (2 ^ n) (x % 2 ^ n) ∙ mod-mod x (2 ^ n)

@@ -84,10 +84,13 @@ cells-fix w x y f (suc n) h =
     ∙ ap₂ (λ (a b : ℕ). a * 2 ^ (w * n) + b) (h n (omega arith)) (cells-fix w x y f n (λ j l. h j (omega arith)))
     ∙ sym (ap (λ (z : ℕ). cut y f z) e ∙ cut-add y f (w * n) w)
 
--- a word of k bits is its field of k bits, and stays one
-pub cut-all : (x k : ℕ) → x < 2 ^ k → cut x 0 k ≡ x
+-- the low k bits; a word of k bits is its field of k bits, and stays one
+pub cut-bottom : (x k : ℕ) → cut x 0 k ≡ x % 2 ^ k
 unfolding cut
-cut-all x k h = ap (λ (y : ℕ). y % 2 ^ k) (div-one x) ∙ mod-eq-of-lt h
+cut-bottom x k = ap (λ (y : ℕ). y % 2 ^ k) (div-one x)
+
+pub cut-all : (x k : ℕ) → x < 2 ^ k → cut x 0 k ≡ x
+cut-all x k h = cut-bottom x k ∙ mod-eq-of-lt h
 
 pub put-lt : (x f n v k : ℕ) → f + n ≤ k → x < 2 ^ k → put x f n v < 2 ^ k
 unfolding put

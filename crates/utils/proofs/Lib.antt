@@ -1,4 +1,5 @@
 pub mod TwosComplement
+pub mod Powers
 pub mod Field
 pub mod Extend
 pub mod Product

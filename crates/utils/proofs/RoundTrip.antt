@@ -6,7 +6,7 @@ use native.Mathlib.Nat.{mod-eq-of-lt, mod-mod, suc-mul}
 use native.Mathlib.Omega.{arith}
 use borrow.Author.Tests.{lt-ltb, le-ltb}
 use lib.IntN.{ℤ, pos, negsuc}
-use lib.Pow.{low, pow-add, pow-mono, pow-pos}
+use lib.Pow.{low, pow-mono, pow-pos}
 use lib.Signed.{mag}
 use mir.Syntax.{w64}
 use mir.Val.{ofZ, toZ}
@@ -14,22 +14,19 @@ use mir.ValLaws.{toZ-ofZ}
 use Rattle.utils.specs.Bytes.{toBytes, fromBytes}
 use Rattle.utils.specs.Word.{extend}
 use Rattle.utils.proofs.Bytes.{from-to}
+use Rattle.utils.proofs.Powers.{twice, word-by}
 
 extend-mod : (k x : ℕ) → extend k (x % 2 ^ k) ≡ extend k x
 unfolding extend
 extend-mod k x = rw (mod-mod x (2 ^ k))
 
 module _ (k : ℕ) (some : 1 ≤ k) (most : k ≤ 64) where
-  twice : 2 ^ k ≡ 2 * 2 ^ (k - 1)
-  twice = let e : k ≡ 1 + (k - 1) = omega arith in ap (λ (n : ℕ). 2 ^ n) e ∙ pow-add 2 1 (k - 1)
-
   -- the low k bits of a number below 0
   low-part : (m : ℕ) → m < 2 ^ (k - 1) → (2 ^ 64 - suc m) % 2 ^ k ≡ 2 ^ k - suc m
   low-part m h =
-      let e : 64 ≡ (64 - k) + k = omega arith in
-      let p : 2 ^ 64 ≡ 2 ^ (64 - k) * 2 ^ k = ap (λ (n : ℕ). 2 ^ n) e ∙ pow-add 2 (64 - k) k in
+      let p = word-by k most in
       let q = pow-pos (64 - k) in
-      let t = twice in
+      let t = twice k some in
       let s : 2 ^ 64 - suc m ≡ (2 ^ (64 - k) - 1) * 2 ^ k + (2 ^ k - suc m) = split (2 ^ 64) (2 ^ (64 - k)) (2 ^ k) m p q (omega arith) in
       rw s (low (2 ^ (64 - k) - 1) k (omega arith))
     where
@@ -40,9 +37,9 @@ module _ (k : ℕ) (some : 1 ≤ k) (most : k ≤ 64) where
   -- a number of k bits is its own sign extension
   pub extend-signed : (z : ℤ) → mag z < 2 ^ (k - 1) → extend k (ofZ w64 z) ≡ ofZ w64 z
   unfolding extend
-  extend-signed (pos m) h = let t = twice in let l : m < 2 ^ k = omega arith in rw (mod-eq-of-lt l, lt-ltb m (2 ^ (k - 1)) h)
+  extend-signed (pos m) h = let t = twice k some in let l : m < 2 ^ k = omega arith in rw (mod-eq-of-lt l, lt-ltb m (2 ^ (k - 1)) h)
   extend-signed (negsuc m) h =
-      let t = twice in
+      let t = twice k some in
       let l : 2 ^ k ≤ 2 ^ 64 = pow-mono most in
       rw (low-part m h, le-ltb (2 ^ k - suc m) (2 ^ (k - 1)) (omega arith)) (omega arith)
 

@@ -1,4 +1,4 @@
--- The walk of document 01. Sentences in quotes are 01's, "Addresses, pages, walk".
+-- The walk of document 01, and what is read at a physical address. Sentences in quotes are 01's, "Addresses, pages, walk".
 use mathlib.Core.Path.{_≡_}
 use mathlib.Core.Bool.{cond}
 use mathlib.Core.List.{List, [], _∷_}

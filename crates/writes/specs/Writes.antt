@@ -3,16 +3,15 @@ use mathlib.Core.Path.{_≡_}
 use mathlib.Core.Bool.{Bool, cond, _&&_}
 use mathlib.Core.List.{List}
 use Prim.Native.Nat.{ℕ}
-use lib.Dec.{leb}
 use lib.ListN.{length, getD}
-use Rattle.store.specs.Store.{Store, sound, live, unused, written, touched, absentOf}
+use Rattle.store.specs.Store.{Store, sound, slotsSuffice, written}
 
 abbrev pub byteOf : List ℕ → ℕ → ℕ
 byteOf d k = getD d k 0
 
--- n bytes at physical p can be written: into a store, which has an unused slot for each absent page that they touch
+-- n bytes at physical p can be written: into a store, whose slots suffice
 unfoldable pub hasRoom : Store → ℕ → ℕ → Bool
-hasRoom s p n = sound s && leb (absentOf (live s) (touched p n)) (unused s)
+hasRoom s p n = sound s && slotsSuffice s p n
 
 -- the bytes d are written at physical p where they can be, and t is the store afterwards
 pub record Stored (s t : Store) (p : ℕ) (d : List ℕ) (done : Bool) : Type 0 where

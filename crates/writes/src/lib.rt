@@ -3,7 +3,6 @@
 // translates the address first. It carries document 01, "Addresses, pages, walk": "A write takes a slot for each absent page it touches, lowest page
 // first, at the end of the slots in use, and the slot is cleared before bytes go in", "without wrap", and the test of refusal 6. Its one public
 // function takes every input, and writes all or nothing. specs/Writes.antt says what it leaves.
-ghost use mathlib.Core.Path.{_≡_};
 ghost use Rattle.store.specs.Store.{storeOf};
 ghost use Rattle.store.specs.Facts.{Sound};
 ghost use Rattle.writes.specs.Writes.{Stored};

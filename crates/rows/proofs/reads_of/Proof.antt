@@ -52,6 +52,12 @@ returns-10 : tie.Need-returns-10
 unfolding readsOf
 returns-10 c = rw (c .no-spans2 .ensures, c .before .enum-told6 .given .1)
 
+returns-11 : tie.Need-returns-11
+unfolding readsOf
+returns-11 c =
+    let call5 = c .before .before in
+    rw (c .operation-reads .ensures, call5 .call5 .given .1)
+
 pub reads-of-spec : {M : Type 1} → statement M
 reads-of-spec =
     tie.close
@@ -59,5 +65,5 @@ reads-of-spec =
     (λ c κs. search needs) (λ c. search needs) (λ c κs. search needs) (λ c. search needs) (λ c κs. search needs)
     (λ c. search needs) (λ c κs. search needs) (λ c. search needs) (λ c κs. search needs) (λ c. search needs)
     (λ c κs. search needs) (λ c κs. search needs) (λ c. search needs) (λ c κs. search needs) (λ c. search needs)
-    (λ c κs. search needs) returns returns-2 returns-3 returns-4 returns-5 returns-6 returns-7 returns-8 returns-9
-    returns-10)
+    (λ c κs. search needs) (λ c. search needs) (λ c κs. search needs) returns returns-2 returns-3 returns-4 returns-5 returns-6
+    returns-7 returns-8 returns-9 returns-10 returns-11)

@@ -36,16 +36,20 @@ returns-10 : tie.Need-returns-10
 returns-10 c = c .compute-flags .ensures ∙ call-by (c .before .before .args .header) 10 (c .before .match .keys10)
 
 returns-11 : tie.Need-returns-11
-returns-11 c =
+returns-11 c = c .operate .ensures ∙ call-by (c .before .before .args .header) 12 (c .before .match .keys11)
+
+returns-12 : tie.Need-returns-12
+returns-12 c =
     let no = c .match .rest in
-    let no7 = no .0 .0 .0 in
-    let no4 = no7 .0 .0 .0 in
-    call-past (c .before .args .header) (no4 .0 .0 .0 .1) (no4 .0 .0 .1) (no4 .0 .1) (no4 .1) (no7 .0 .0 .1) (no7 .0 .1) (no7 .1)
+    let no8 = no .0 .0 .0 in
+    let no5 = no8 .0 .0 .0 in
+    let no2 = no5 .0 .0 .0 in
+    call-past (c .before .args .header) (no2 .0 .1) (no2 .1) (no5 .0 .0 .1) (no5 .0 .1) (no5 .1) (no8 .0 .0 .1) (no8 .0 .1) (no8 .1)
     (no .0 .0 .1) (no .0 .1) (no .1)
 
 pub decode-call-spec : {M : Type 1} → statement M
 decode-call-spec =
     tie.close
     (tie.spec (λ c κs. search needs) (λ c κs. search needs) (λ c κs. search needs) (λ c κs. search needs)
-    (λ c κs. search needs) (λ c κs. search needs) returns returns-2 returns-3 returns-4 returns-5 returns-6 returns-7
-    returns-8 returns-9 returns-10 returns-11)
+    (λ c κs. search needs) (λ c κs. search needs) (λ c κs. search needs) returns returns-2 returns-3 returns-4 returns-5 returns-6 returns-7
+    returns-8 returns-9 returns-10 returns-11 returns-12)

@@ -2,8 +2,8 @@
 use native.Mathlib.Omega.{arith}
 use Rattle.utils.specs.Word.{cut}
 use borrow.Author.Needs.{needs}
-use Rattle.operand_text.proofs.cut_to.Statement.{statement}
-use Rattle.operand_text.proofs.cut_to.Tie as tie
+use Rattle.fields.proofs.cut_to.Statement.{statement}
+use Rattle.fields.proofs.cut_to.Tie as tie
 
 returns : tie.Need-returns
 unfolding cut

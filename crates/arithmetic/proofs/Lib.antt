@@ -1,0 +1,5 @@
+pub mod Widths
+pub mod Integers
+pub mod Adding
+pub mod Taking
+pub mod Left
