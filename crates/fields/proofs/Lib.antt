@@ -1,4 +1,3 @@
 pub mod BitOf
-pub mod Parity
 pub mod PartLaws
 pub mod FlagLaws

@@ -98,19 +98,12 @@ pub fn sign_bit(result: u64, size: ArgumentSize) -> bool
     (result >> top) % 2 == 1
 }
 
-// Whether the low byte has an even number of ones: the Rust's loop of exclusive-ors.
+// Parity as the manual has it: set where the low byte has an even number of ones.
 pub fn even_parity(result: u64) -> bool
     ensures { λ r. ⌜ r ≡ evenOnes result ⌝ }
 {
-    let mut parity: u64 = 0;
-    let mut rest = result;
-    let mut i: u64 = 0;
-    while i < 8 {
-        parity = parity ^ rest % 2;
-        rest = rest / 2;
-        i += 1;
-    }
-    parity != 1
+    let low_byte = result % 0x100;
+    u64::count_ones(low_byte) % 2 == 0
 }
 
 // rflags after a result. Zero looks at all 64 bits whatever the size, as in the Rust.
