@@ -244,7 +244,8 @@ fn arguments(s: &mut Session, step: usize) {
 pub fn all(s: &mut Session) {
     let mut results: Vec<u64> = EDGES.to_vec();
     results.extend(0..=256);
-    results.extend([0x1_0000_0080, 0x8000_0000_0000_8000]);
+    // Parity is that of the low byte alone: clear of 0x101, set of 0x300
+    results.extend([0x101, 0x300, 0x1_0000_0080, 0x8000_0000_0000_8000]);
     register_reads(s, &EDGES);
     register_writes(s, &EDGES, 1);
     flags(s, &results);
