@@ -9,7 +9,7 @@ use rows::Spans;
 ghost use mathlib.Core.Path.{_≡_};
 ghost use Prim.Native.Nat.{_+_, _≤_};
 ghost use lib.ListN.{length};
-ghost use Rattle.rows.specs.Rows.{inSpan, inSpans, Inside};
+ghost use Rattle.rows.specs.Rows.{span, inSpan, inSpans, Inside};
 ghost use Rattle.exposed.specs.Reported.{reportOutcome, reported, Marked};
 
 // A call of a reported list.
@@ -28,16 +28,29 @@ pub struct Report {
     pub places: [bool; 182],
 }
 
-// Says yes or no at each place of a span, and leaves the others.
+// Says yes or no at so many places from start on, and leaves the others.
+fn mark_from(on: &mut [bool; 182], start: usize, count: usize, value: bool)
+    requires { ⌜ (length (now on) ≡ 182) × (start + count ≤ 182) ⌝ }
+    ensures { λ _. ⌜ Marked (now (on .entry)) (now (on .exit)) (inSpan (span start count)) value ⌝ }
+{
+    let end = start + count;
+    let mut p = start;
+    while p < end {
+        on[p] = value;
+        p += 1;
+    }
+}
+
+// Most spans are one flag or one whole register: where the count is known, the loop is compiled to one store.
 fn mark(on: &mut [bool; 182], span: Span, value: bool)
     requires { ⌜ (length (now on) ≡ 182) × (span .start + span .count ≤ 182) ⌝ }
     ensures { λ _. ⌜ Marked (now (on .entry)) (now (on .exit)) (inSpan span) value ⌝ }
 {
-    let end = span.start + span.count;
-    let mut p = span.start;
-    while p < end {
-        on[p] = value;
-        p += 1;
+    let count = span.count;
+    match count {
+        1 => mark_from(on, span.start, 1, value),
+        8 => mark_from(on, span.start, 8, value),
+        _ => mark_from(on, span.start, count, value),
     }
 }
 

@@ -1,51 +1,19 @@
--- `exposed::mark` meets its contract: with each turn the part of the span that is marked grows by one place. Assumes nothing.
-use Rattle.exposed.proofs.Marking.{mark-none, mark-more}
-use native.Mathlib.Omega.{arith}
-use Rattle.rows.specs.Rows.{span, inSpan}
-use Rattle.exposed.specs.Reported.{Marked}
+-- `exposed::mark` meets its contract: in each arm the count that is given is the span's. Assumes nothing.
 use borrow.Author.Needs.{needs}
-use mathlib.Core.Path.{_≡_, subst}
-use Prim.Native.Nat.{_-_, _≤_, ℕ}
 use Rattle.exposed.proofs.mark.Statement.{statement}
 use Rattle.exposed.proofs.mark.Tie as tie
 
-abbrev Inv-loop : tie.InvT-loop
-Inv-loop on₀ value end p₀ on p = (p₀ ≤ p) × (p ≤ end) × (end ≤ 182) × Marked on₀ on (inSpan (span p₀ (p - p₀))) value
-
-abbrev μ-loop : tie.MeasureT-loop
-μ-loop on₀ value end p₀ on p = end - p
-
-loop-holds : tie.Need-loop-holds Inv-loop μ-loop
-loop-holds c =
-    let start = c .before in (
-      omega arith,
-      omega arith,
-      start .pre .1,
-      mark-none (start .args .on .now) (start .args .span .start) (start .args .value),
-    )
-
-loop-again : tie.Need-loop-again Inv-loop μ-loop
-loop-again c =
-    let loop = c .before in
-    let start = loop .before .before in (
-      omega arith,
-      omega arith,
-      loop .loop .inv .2,
-      mark-more (start .args .on .now) (loop .loop .on) (start .args .span .start) (loop .loop .p) (start .args .value)
-          (loop .loop .inv .0) (omega (arith, start .pre .0)) (loop .loop .inv .3),
-    )
-
-returns : tie.Need-returns Inv-loop μ-loop
+returns : tie.Need-returns
 returns c =
-    let loop = c .before in
-    let start = loop .before .before in
-    let e : loop .loop .p - start .args .span .start ≡ start .args .span .count = omega arith in
-    subst (λ (n : ℕ). Marked (start .args .on .now) (loop .loop .on) (inSpan (span (start .args .span .start) n))
-    (start .args .value))
-    e (loop .loop .inv .3)
+    let match = c .before .before in
+    rw (match .match .keys1) (c .mark-from .ensures)
+
+returns-2 : tie.Need-returns-2
+returns-2 c =
+    let match = c .before .before in
+    rw (match .match .keys2) (c .mark-from2 .ensures)
 
 pub mark-spec : {M : Type 1} → statement M
 mark-spec =
     tie.close
-    (tie.spec Inv-loop μ-loop (λ c. search needs) loop-holds (λ c. search needs) (λ c. search needs) (λ c. omega arith)
-    loop-again returns)
+    (tie.spec (λ c κs. search needs) (λ c κs. search needs) (λ c κs. search needs) returns returns-2 (λ c. search needs))
