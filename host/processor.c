@@ -4,16 +4,24 @@
    and pseudo-random words. Compared with the processor are the value and the five flags, and Direction, which stays; these flags are clear
    before, and then set. Auxiliary carry, which the processor rewrites too and the code does not, is left out and counted (docs/DIFFERENCES.md).
    Compared with the rules are the value and every bit of rflags. In each case the machine's other words must stay, and the words beside it.
+   Likewise the flags of a result behind ruonasvel_compute_sized_flags: the processor's are those of `test` of the result with itself, of which
+   Zero, Sign and Parity are compared, and Direction (`test` clears Carry and Overflow, and the code leaves them). A case is a size and a result:
+   at each size all of 16 bits at five places of the word, and the 64 edges. Those are counted in which Zero is set and the whole word is not 0:
+   there compute_flags, which looks at all 64 bits, would leave it clear.
    The kit has no C headers of its own but for those that tools/link writes, so printf is declared here. */
 #include "ruonasvel.h"
 
 int printf(const char *format, ...);
 
-enum { ADD, ADC, SUB, SBB, CMP }; /* the operations' numbers */
-static const char *const name[5] = {"add", "adc", "sub", "sbb", "cmp"};
+enum { ADD, ADC, SUB, SBB, CMP, TEST }; /* the operations' numbers; test has none */
+static const char *const name[6] = {"add", "adc", "sub", "sbb", "cmp", "test"};
 static const int width[4] = {64, 32, 16, 8}; /* by the size's number */
 
 #define CARRY 0x1u
+#define PARITY 0x4u
+#define ZERO 0x40u
+#define SIGN 0x80u
+#define THREE 0xc4u /* Parity, Zero, Sign */
 #define FIVE 0x8c5u /* Carry, Parity, Zero, Sign, Overflow */
 #define AUXILIARY 0x10u
 #define DIRECTION 0x400u
@@ -43,7 +51,8 @@ struct result {
         case ADC: RUN("adc" #SUFFIX, TYPE)                                                                               \
         case SUB: RUN("sub" #SUFFIX, TYPE)                                                                               \
         case SBB: RUN("sbb" #SUFFIX, TYPE)                                                                               \
-        default: RUN("cmp" #SUFFIX, TYPE)                                                                                \
+        case CMP: RUN("cmp" #SUFFIX, TYPE)                                                                               \
+        default: RUN("test" #SUFFIX, TYPE)                                                                               \
         }                                                                                                                \
     }
 
@@ -52,7 +61,7 @@ SIZED(w, unsigned short)
 SIZED(l, unsigned)
 SIZED(q, uint64_t)
 
-/* compare leaves its first value where it was; the others' results are sign-extended here, as an answer is */
+/* compare and test leave their first value where it was; the others' results are sign-extended here, as an answer is */
 static struct result by_processor(int op, int w, uint64_t a, uint64_t b, uint64_t before) {
     struct result p;
     switch (w) {
@@ -69,6 +78,14 @@ static struct result by_processor(int op, int w, uint64_t a, uint64_t b, uint64_
 /* ---- the rules */
 typedef __int128 whole;
 
+/* Parity, Zero and Sign of a number of w bits */
+static uint64_t three_flags(int w, whole r) {
+    int ones = 0;
+    for (int i = 0; i < 8; i++)
+        ones += (int)(r >> i & 1);
+    return (ones % 2 == 0 ? PARITY : 0) | (r == 0 ? ZERO : 0) | (r >= (whole)1 << (w - 1) ? SIGN : 0);
+}
+
 static struct result by_rule(int op, int w, uint64_t a, uint64_t b, uint64_t before) {
     whole range = (whole)1 << w, half = (whole)1 << (w - 1);
     whole ua = a & (range - 1), ub = b & (range - 1), c = op == ADC || op == SBB ? before & CARRY : 0;
@@ -78,40 +95,54 @@ static struct result by_rule(int op, int w, uint64_t a, uint64_t b, uint64_t bef
     whole s = plus ? sa + sb + c : sa - sb - c; /* of the values with their signs */
     bool carry = u < 0 || u >= range, overflow = s < -half || s >= half;
     whole r = u & (range - 1);
-    int ones = 0;
-    for (int i = 0; i < 8; i++)
-        ones += (int)(r >> i & 1);
-    uint64_t f = (carry ? 0x1u : 0) | (ones % 2 == 0 ? 0x4u : 0) | (r == 0 ? 0x40u : 0) | (r >= half ? 0x80u : 0) | (overflow ? 0x800u : 0);
+    uint64_t f = (carry ? 0x1u : 0) | three_flags(w, r) | (overflow ? 0x800u : 0);
     return (struct result){(uint64_t)(r < half ? r : r - range), (before & ~(uint64_t)FIVE) | f};
 }
 
 /* ---- the proved code, on a machine that lies between two words that no call may touch */
+union room {
+    uint64_t words[27];
+    struct {
+        uint64_t below;
+        struct ruonasvel_machine machine;
+        uint64_t above;
+    } parts;
+};
+
+static void furnish(union room *room, uint64_t before) {
+    for (unsigned i = 0; i < 27; i++)
+        room->words[i] = FILL * (i + 1);
+    room->parts.machine.rflags = before;
+}
+
+/* all words but rflags are as they were */
+static bool kept(const union room *room) {
+    bool same = true;
+    for (unsigned i = 0; i < 27; i++)
+        if (&room->words[i] != &room->parts.machine.rflags)
+            same = same && room->words[i] == FILL * (i + 1);
+    return same;
+}
+
 struct seen {
     struct ruonasvel_arithmetic_answer answer;
     uint64_t rflags;
-    bool kept; /* all words but rflags */
+    bool kept;
 };
 
 static struct seen by_code(uint64_t op, uint64_t size, uint64_t a, uint64_t b, uint64_t before) {
-    union {
-        uint64_t words[27];
-        struct {
-            uint64_t below;
-            struct ruonasvel_machine machine;
-            uint64_t above;
-        } parts;
-    } room;
-    for (unsigned i = 0; i < 27; i++)
-        room.words[i] = FILL * (i + 1);
-    room.parts.machine.rflags = before;
-    struct seen seen;
-    seen.answer = ruonasvel_arithmetic(&room.parts.machine, op, size, a, b);
-    seen.rflags = room.parts.machine.rflags;
-    seen.kept = true;
-    for (unsigned i = 0; i < 27; i++)
-        if (&room.words[i] != &room.parts.machine.rflags)
-            seen.kept = seen.kept && room.words[i] == FILL * (i + 1);
-    return seen;
+    union room room;
+    furnish(&room, before);
+    struct ruonasvel_arithmetic_answer answer = ruonasvel_arithmetic(&room.parts.machine, op, size, a, b);
+    return (struct seen){answer, room.parts.machine.rflags, kept(&room)};
+}
+
+/* a flag call answers whether its size is known, and no value */
+static struct seen flags_by_code(uint64_t size, uint64_t result, uint64_t before) {
+    union room room;
+    furnish(&room, before);
+    bool known = ruonasvel_compute_sized_flags(&room.parts.machine, result, size);
+    return (struct seen){{known, 0, 0}, room.parts.machine.rflags, kept(&room)};
 }
 
 /* an answer of this value, and from compare nothing */
@@ -120,7 +151,7 @@ static bool answered(int op, struct seen seen, uint64_t value) {
     return seen.answer.known == 1 && seen.answer.answers == !compares && seen.answer.value == (compares ? 0 : value) && seen.kept;
 }
 
-static long cases, differ, auxiliary;
+static long cases, differ, auxiliary, zero_at_size;
 
 static void report(const char *beside, int op, int w, uint64_t a, uint64_t b, uint64_t before, struct result r, struct seen c) {
     if (differ >= 20)
@@ -160,6 +191,37 @@ static void compare(int op, uint64_t size, uint64_t a, uint64_t b, uint64_t carr
     differ += wrong != 0;
 }
 
+/* the flags of a result, of which w bits count */
+static int flags_beside_rule(uint64_t size, uint64_t result, uint64_t before) {
+    int w = width[size];
+    whole low = result & (((whole)1 << w) - 1);
+    struct result r = {0, (before & ~(uint64_t)THREE) | three_flags(w, low)};
+    struct seen c = flags_by_code(size, result, before);
+    bool same = c.answer.known == 1 && c.kept && c.rflags == r.rflags;
+    if (!same)
+        report("rule", TEST, w, result, result, before, r, c);
+    return !same;
+}
+
+static int flags_beside_processor(uint64_t size, uint64_t result, uint64_t before) {
+    struct result p = by_processor(TEST, width[size], result, result, before);
+    struct seen c = flags_by_code(size, result, before);
+    bool same = c.answer.known == 1 && c.kept && ((p.rflags ^ c.rflags) & (THREE | DIRECTION)) == 0;
+    zero_at_size += result != 0 && (p.rflags & ~before & ZERO) != 0;
+    if (!same)
+        report("processor", TEST, width[size], result, result, before, p, c);
+    return !same;
+}
+
+/* the flags clear before and set; and then every bit */
+static void compare_flags(uint64_t size, uint64_t result) {
+    uint64_t set = PROCESSOR | FIVE | AUXILIARY | DIRECTION;
+    int wrong = flags_beside_processor(size, result, PROCESSOR) + flags_beside_processor(size, result, set);
+    wrong += flags_beside_rule(size, result, 0) + flags_beside_rule(size, result, ~(uint64_t)0);
+    cases++;
+    differ += wrong != 0;
+}
+
 static const uint64_t numbers[] = {0, 1, 2, 3, 4, 5, 255, 256, 0xffffffff, 0x100000000, 0x100000003, 0x8000000000000000, 0xffffffffffffffff};
 #define NUMBERS (sizeof(numbers) / sizeof(numbers[0]))
 
@@ -170,6 +232,16 @@ static void refuse(uint64_t op, uint64_t size, uint64_t before) {
     if (!same && differ < 20)
         printf("operation %lx, size %lx: known %lx, rflags %lx\n", (unsigned long)op, (unsigned long)size, (unsigned long)c.answer.known,
             (unsigned long)c.rflags);
+    cases++;
+    differ += !same;
+}
+
+/* a number that names no size: no word changes */
+static void refuse_flags(uint64_t size, uint64_t before) {
+    struct seen c = flags_by_code(size, 0x8000000000000001, before);
+    bool same = c.answer.known == 0 && c.rflags == before && c.kept;
+    if (!same && differ < 20)
+        printf("flags at size %lx: known %lx, rflags %lx\n", (unsigned long)size, (unsigned long)c.answer.known, (unsigned long)c.rflags);
     cases++;
     differ += !same;
 }
@@ -201,6 +273,14 @@ static void all_edges(int op, uint64_t size, uint64_t carry) {
             compare(op, size, edge[j], edge[k], carry);
 }
 
+static void all_results(uint64_t size) {
+    for (uint64_t v = 0; v < 65536; v++)
+        for (int at = 0; at <= 48; at += 12)
+            compare_flags(size, v << at);
+    for (int j = 0; j < 64; j++)
+        compare_flags(size, edge[j]);
+}
+
 int main(void) {
     fill_edges();
     for (int op = ADD; op <= CMP; op++)
@@ -215,7 +295,15 @@ int main(void) {
                 refuse(numbers[o], numbers[s], 0);
                 refuse(numbers[o], numbers[s], ~(uint64_t)0);
             }
+    for (uint64_t size = 0; size < 4; size++)
+        all_results(size);
+    for (unsigned s = 0; s < NUMBERS; s++)
+        if (numbers[s] > 3) {
+            refuse_flags(numbers[s], 0);
+            refuse_flags(numbers[s], ~(uint64_t)0);
+        }
     printf("the processor sets Auxiliary carry in %ld cases\n", auxiliary);
+    printf("it sets Zero of a result that is not 0 as a whole in %ld cases\n", zero_at_size);
     printf("processor test: %ld cases, %ld differ\n", cases, differ);
-    return differ != 0;
+    return differ != 0 || zero_at_size == 0;
 }

@@ -33,4 +33,10 @@ struct ruonasvel_arithmetic_answer {
    it is. `machine` points to a machine, which is lent for the call: nothing else may use it meanwhile. */
 struct ruonasvel_arithmetic_answer ruonasvel_arithmetic(struct ruonasvel_machine *machine, uint64_t operation, uint64_t size, uint64_t first, uint64_t second);
 
+/* Zero, Sign and Parity in rflags become those of a result: Zero and Sign look at its low bits, as many as the size has, Parity at its low byte, as
+   the processor does it. `result` is any word; every other bit of rflags and every other word of the machine stays, and the answer is true. Size 0
+   is 64 bits, 1 is 32, 2 is 16, 3 is 8; any other number leaves the machine as it is, and the answer is false. `machine` points to a machine, which
+   is lent for the call: nothing else may use it meanwhile. */
+bool ruonasvel_compute_sized_flags(struct ruonasvel_machine *machine, uint64_t result, uint64_t size);
+
 #endif

@@ -1,5 +1,6 @@
 """Arithmetic (02, No. 2), which the Rust does not have; expected is what arithmetic.py says. Each operation at each size over its edges; numbers of
-many words, a word to a call, with calls in between that leave Carry; and arithmetic drawn among all other calls."""
+many words, a word to a call, with calls in between that leave Carry; and arithmetic drawn among all other calls. Then the flags of a result by both
+forms, of all 64 bits (01) and at the size (02, No. 4), by model.py."""
 import arithmetic
 from arithmetic import ADD, ADD_WITH_CARRY, BY_HAND, CARRY, OPERATIONS, SUBTRACT, SUBTRACT_WITH_BORROW
 from model import *
@@ -55,7 +56,7 @@ def another(s, g):
     elif kind == 2:
         s.call(SET_FLAG, a=1 + g.below(5), b=g.below(2))
     elif kind == 3:
-        s.call(COMPUTE, size, value)
+        s.call(g.choice([COMPUTE, COMPUTE_SIZED]), size, (value << g.below(64)) % TOP)
     elif kind == 4:
         s.call(PUSH, block=bytes([value % 256]) * g.choice([0, 1, 8, 4097]))  # the last is refused: 5
     elif kind == 5:
@@ -114,6 +115,21 @@ def mixed(s, g, n):
                 s.show_machine()
 
 
+def forms(s, g, sample):
+    """Both forms of the flags of a result, at each size, on rflags of zeros and of ones: 0, the sign bit or all ones in the low bits of each width,
+    with nothing, one bit or anything above them."""
+    for width in (8, 16, 32, 64):
+        for low in (0, 1 << width - 1, (1 << width) - 1):
+            for above in (0, 1, 1 << 63 - width, g.next()) if width < 64 else (0,):
+                for size in range(4):
+                    if not sample or g.below(24) == 0:
+                        for kind in (COMPUTE, COMPUTE_SIZED):
+                            for rflags in (0, TOP - 1):
+                                s.reset(WORDS[:RFLAGS] + [rflags] + WORDS[RFLAGS + 1 :], [], 0, 0, 0)
+                                s.call(kind, size, (low + (above << width)) % TOP, op=g.choice([NO_OPERAND, NOT_LOOKED_AT]))
+                                s.show_machine()
+
+
 def calls(s, sample):
     arithmetic.check()
     g = Rng(20260102)
@@ -130,3 +146,4 @@ def calls(s, sample):
         start(s, g)
         mixed(s, g, 30 if sample else 60)
         s.show()
+    forms(s, g, sample)

@@ -4,7 +4,7 @@ import struct
 import sys
 
 KINDS = {1: "read operand", 2: "write operand", 3: "effective address", 4: "push", 5: "pop", 6: "read memory", 7: "write memory", 8: "test flag",
-         9: "set flag", 10: "compute_flags", 11: "read byte", 12: "arithmetic", 16: "size", 17: "one argument", 18: "two arguments",
+         9: "set flag", 10: "compute_flags", 11: "read byte", 12: "arithmetic", 13: "sized flags", 16: "size", 17: "one argument", 18: "two arguments",
          20: "page view", 24: "reset", 25: "load", 26: "show machine", 27: "show directory", 28: "show bytes", 32: "operand text at a size",
          33: "arguments text", 34: "state text", 35: "event line", 36: "operand text", 37: "register text", 38: "operand text read back",
          40: "exposed report"}

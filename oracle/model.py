@@ -1,11 +1,11 @@
 """What refusals.py, texts.py, report.py and carries.py share: records, operands, the registers of 01's table, and a small model of the machine and its
-store. It is written from 01 and shares nothing with the Rattle code or with the Rust; arithmetic.py has the rules of 02, No. 2."""
+store. It is written from 01 and 02 and shares nothing with the Rattle code or with the Rust; arithmetic.py has the rules of 02, No. 2."""
 import struct
 
 import arithmetic
 from arithmetic import signed
 
-READ, WRITE, ADDRESS, PUSH, POP, READ_MEMORY, WRITE_MEMORY, TEST_FLAG, SET_FLAG, COMPUTE, READ_BYTE, ARITHMETIC = range(1, 13)
+READ, WRITE, ADDRESS, PUSH, POP, READ_MEMORY, WRITE_MEMORY, TEST_FLAG, SET_FLAG, COMPUTE, READ_BYTE, ARITHMETIC, COMPUTE_SIZED = range(1, 14)
 VIEW, RESET, LOAD, SHOW_MACHINE, SHOW_DIRECTORY, SHOW_BYTES = 20, 24, 25, 26, 27, 28
 TOP = 1 << 64
 RAX, RSP, RBP, CR3, RFLAGS = 0, 4, 5, 19, 22
@@ -115,9 +115,10 @@ class Model:
     def put_flag(self, flag, yes):
         self.words[RFLAGS] = arithmetic.put(self.words[RFLAGS], flag, yes)
 
-    def compute_flags(self, result, size):
+    def compute_flags(self, result, size, zero_bits):
+        """Zero is of so many low bits: all 64 whatever the size (01), or those of the size (02, No. 4)."""
         self.put_flag(arithmetic.PARITY, arithmetic.even_ones(result))
-        self.put_flag(arithmetic.ZERO, result == 0)  # whatever the size
+        self.put_flag(arithmetic.ZERO, result % (1 << zero_bits) == 0)
         self.put_flag(arithmetic.SIGN, signed(result, 64 >> size) < 0)
 
     def operate(self, operation, size, first, second):
@@ -172,7 +173,9 @@ class Stream:
             elif kind == SET_FLAG:
                 m.put_flag(arithmetic.FLAGS[a], b)
             elif kind == COMPUTE:
-                m.compute_flags(a, size)
+                m.compute_flags(a, size, 64)
+            elif kind == COMPUTE_SIZED:
+                m.compute_flags(a, size, 64 >> size)
             elif kind == ARITHMETIC:
                 shape, value = m.operate(c, size, a, b)
             else:

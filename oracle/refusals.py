@@ -1,9 +1,9 @@
 #!/usr/bin/env python3
 """refusals.py CALLS ANSWERS [sample]: appends to both files the calls that the Rust has no answer to, with the answers that 01 gives them: accesses
 of no bytes, refusals 4, 5 and 6 and their order, the page view, directories with numbers twice or past 2^52; then, by texts.py, report.py,
-readback.py and carries.py, refusal 7, the exposed report and refusal 12, operand text read back and refusal 13, arithmetic. The expected answers come
-from models that are written from 01 and 02 and share nothing with the Rattle code or with the Rust. With `sample` there are fewer of these last four,
-for the stored sample. Prints the number of calls."""
+readback.py and carries.py, refusal 7, the exposed report and refusal 12, operand text read back and refusal 13, arithmetic and the sized flags. The
+expected answers come from models that are written from 01 and 02 and share nothing with the Rattle code or with the Rust. With `sample` there are
+fewer of these last four, for the stored sample. Prints the number of calls."""
 import sys
 
 sys.dont_write_bytecode = True

@@ -1,5 +1,5 @@
-"""The exposed report, which the Rust does not have: expected are the rows of 01, "Places and calls", by the model below. It goes forwards, as the
-definition does: a place is exposed if some call reads it and no earlier call has rewritten it."""
+"""The exposed report, which the Rust does not have: expected are the rows of 01, "Places and calls", and of 02, by the model below. It goes forwards,
+as the definition does: a place is exposed if some call reads it and no earlier call has rewritten it."""
 from arithmetic import ADD, ADD_WITH_CARRY, COMPARE, OPERATIONS, READ_CARRY, SUBTRACT_WITH_BORROW
 from model import *
 
@@ -11,7 +11,7 @@ CR3_LANES = set(range(8 * CR3, 8 * CR3 + 8))
 
 def entry(kind, size=0, a=0, b=0, op=NO_OPERAND):
     """A call of a list, as the 16 words of its header; words that its kind does not use are 0."""
-    size = size if kind in (READ, WRITE, COMPUTE) else 0
+    size = size if kind in (READ, WRITE, COMPUTE, COMPUTE_SIZED) else 0
     a = 0 if kind in (READ, ADDRESS, PUSH, POP) else a
     return (kind, 0, size, a, b if kind == SET_FLAG else 0, 0, *op, *NO_OPERAND)
 
@@ -49,7 +49,7 @@ def rewrites(call):
         return RSP_LANES
     if kind == SET_FLAG:
         return {176 + call[3]}
-    if kind == COMPUTE:
+    if kind in (COMPUTE, COMPUTE_SIZED):
         return {PARITY, ZERO, SIGN}
     if kind == ARITHMETIC:
         return {CARRY, PARITY, ZERO, SIGN, OVERFLOW}
@@ -99,6 +99,7 @@ def singles():
         yield entry(SET_FLAG, a=flag, b=1)
     for size in range(4):
         yield entry(COMPUTE, size, 1 << 63)
+        yield entry(COMPUTE_SIZED, size, 1 << 63)
         for operation in OPERATIONS:
             yield operate(operation, size, TOP - 1, 1 << 63)
 
@@ -113,6 +114,7 @@ def groups():
     flags = range(6)
     yield [entry(TEST_FLAG, a=f) for f in flags]
     yield [entry(COMPUTE, 3, 1)] + [entry(TEST_FLAG, a=f) for f in flags]
+    yield [entry(COMPUTE_SIZED, 3, 256)] + [entry(TEST_FLAG, a=f) for f in flags]
     yield [entry(SET_FLAG, a=f) for f in flags if f % 2] + [entry(TEST_FLAG, a=f) for f in flags]
     yield [entry(TEST_FLAG, a=1), entry(COMPUTE, 0, 1), entry(TEST_FLAG, a=2), entry(SET_FLAG, a=5, b=1), entry(TEST_FLAG, a=5)]
     for operation in OPERATIONS:
@@ -132,8 +134,9 @@ def groups():
 def leave_carry():
     """A call of each other kind that does not rewrite Carry."""
     return [entry(SET_FLAG, a=f) for f in range(1, 6)] + [
-        entry(COMPUTE, 3), entry(TEST_FLAG, a=0), entry(PUSH), entry(POP), entry(READ_MEMORY), entry(WRITE_MEMORY), on(READ, "ax"), on(WRITE, "eax"),
-        on(ADDRESS, "rax"), entry(WRITE, 0, 1, op=immediate(1)), entry(READ, 0, op=at(8, base=RBP)), entry(WRITE, 0, 1, op=at(8, index=RBP))]
+        entry(COMPUTE, 3), entry(COMPUTE_SIZED, 3), entry(TEST_FLAG, a=0), entry(PUSH), entry(POP), entry(READ_MEMORY), entry(WRITE_MEMORY),
+        on(READ, "ax"), on(WRITE, "eax"), on(ADDRESS, "rax"), entry(WRITE, 0, 1, op=immediate(1)), entry(READ, 0, op=at(8, base=RBP)),
+        entry(WRITE, 0, 1, op=at(8, index=RBP))]
 
 
 def pairs():
@@ -184,7 +187,7 @@ def drawn(g, n):
 
     def one():
         kind = g.choice([READ, READ, WRITE, WRITE, WRITE, ADDRESS, PUSH, POP, READ_MEMORY, WRITE_MEMORY, TEST_FLAG, TEST_FLAG, SET_FLAG, COMPUTE,
-                         ARITHMETIC])
+                         COMPUTE_SIZED, ARITHMETIC])
         if kind == ARITHMETIC:
             return operate(g.choice(OPERATIONS), g.below(4), g.next(), g.next())
         if kind in (TEST_FLAG, SET_FLAG):
@@ -201,7 +204,7 @@ def drawn(g, n):
 def calls(s, sample):
     s.reset([0] * 25, [0], 4096, 0, 0xEE)
     g = Rng(20260101)
-    # 01's table, then what 02, No. 2 says of Carry
+    # 01's table, then what 02, No. 2 says of Carry, and No. 4 of the sized flags
     examples = [
         ([on(WRITE, "ax"), on(READ, "eax")], {2, 3}),
         ([on(WRITE, "eax"), on(READ, "rax")], set()),
@@ -212,6 +215,8 @@ def calls(s, sample):
         ([operate(SUBTRACT_WITH_BORROW, 0)], {CARRY}),
         ([entry(COMPUTE), entry(SET_FLAG, a=5), operate(ADD_WITH_CARRY, 1), operate(ADD_WITH_CARRY, 1)], {CARRY}),
         ([operate(COMPARE)] + [entry(TEST_FLAG, a=f) for f in range(6)], {DIRECTION}),
+        ([entry(COMPUTE_SIZED, 3, 256)] + [entry(TEST_FLAG, a=f) for f in range(6)], {CARRY, DIRECTION, OVERFLOW}),
+        ([entry(TEST_FLAG, a=2), entry(COMPUTE_SIZED, 3, 256)], {ZERO}),
     ]
     for listed, places in examples:
         assert exposed(listed) == places

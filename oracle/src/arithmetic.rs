@@ -1,7 +1,8 @@
 //! Arithmetic (02, No. 2), which the Rust does not have, in two forms. `by_the_rules` is what the comparison expects: the manual's rules over whole
 //! numbers, in 128 bits. `operate` is what one would write by hand, in 64-bit words that wrap: pace measures it. Both give the answer,
 //! sign-extended (compare has none), and rflags after it. The session holds the one against the other at each call; so does
-//! `rustc --test` of this file over all bytes, edges and a million others, which nothing runs by itself.
+//! `rustc --test` of this file over all bytes, edges and a million others, which nothing runs by itself. `sized_flags` is the sized form of
+//! `compute_flags` (02, No. 4), written by hand; the session holds it against the Rust's own `compute_flags` of the low bits, sign-extended.
 #![allow(dead_code)]
 
 #[derive(Clone, Copy, PartialEq, Debug)]
@@ -68,8 +69,23 @@ pub fn operate(operation: Operation, bits: u32, first: u64, second: u64, rflags:
     if result == 0 { after |= ZERO }
     if result >> (bits - 1) == 1 { after |= SIGN }
     if overflow >> (bits - 1) & 1 == 1 { after |= OVERFLOW }
-    let answer = ((result << above) as i64 >> above) as u64;
+    let answer = sign_extended(result, bits);
     (if operation == Compare { None } else { Some(answer) }, after)
+}
+
+/// A value's low bits with its sign, and the bits above them set or clear by it.
+pub fn sign_extended(value: u64, bits: u32) -> u64 {
+    let above = 64 - bits;
+    ((value << above) as i64 >> above) as u64
+}
+
+/// rflags with Zero, Sign and Parity of the low bits of a result.
+pub fn sized_flags(result: u64, bits: u32, rflags: u64) -> u64 {
+    let mut after = rflags & !(PARITY | ZERO | SIGN);
+    if (result as u8).count_ones() % 2 == 0 { after |= PARITY }
+    if result << (64 - bits) == 0 { after |= ZERO }
+    if result >> (bits - 1) & 1 == 1 { after |= SIGN }
+    after
 }
 
 #[cfg(test)]

@@ -41,11 +41,16 @@ fn register_writes(s: &mut Session, values: &[u64], show: u64) {
         s.show_machine();
     }
 }
-fn flags(s: &mut Session, results: &[u64]) {
-    for rflags in [0, 0xffff_ffff_ffff_ffff, 0x0123_4567_89ab_cdef, 0x8c5] {
-        let mut w = pattern(7);
-        w[22] = rflags;
-        s.reset(&w, 1, &[], 0);
+/// Distinct words, with these rflags.
+fn flagged(rflags: u64) -> [u64; 25] {
+    let mut w = pattern(7);
+    w[22] = rflags;
+    w
+}
+const RFLAGS: [u64; 4] = [0, 0xffff_ffff_ffff_ffff, 0x0123_4567_89ab_cdef, 0x8c5];
+fn flags(s: &mut Session) {
+    for rflags in RFLAGS {
+        s.reset(&flagged(rflags), 1, &[], 0);
         for f in 0..6 { s.simple(TEST_FLAG, 0, f, 0); }
         for f in 0..6 {
             for v in [1, 0, 1] {
@@ -54,10 +59,15 @@ fn flags(s: &mut Session, results: &[u64]) {
             }
             s.show_machine();
         }
-        s.reset(&w, 1, &[], 0);
+    }
+}
+/// The flags of results at each size, by `compute_flags` or by its sized form; each of the three is tested.
+fn result_flags(s: &mut Session, kind: u64, results: &[u64]) {
+    for rflags in RFLAGS {
+        s.reset(&flagged(rflags), 1, &[], 0);
         for size in 0..4 {
             for r in results {
-                s.simple(COMPUTE_FLAGS, size, *r, 0);
+                s.simple(kind, size, *r, 0);
                 for f in 1..4 { s.simple(TEST_FLAG, 0, f, 0); }
             }
             s.show_machine();
@@ -248,7 +258,9 @@ pub fn all(s: &mut Session) {
     results.extend([0x101, 0x300, 0x1_0000_0080, 0x8000_0000_0000_8000]);
     register_reads(s, &EDGES);
     register_writes(s, &EDGES, 1);
-    flags(s, &results);
+    flags(s);
+    result_flags(s, COMPUTE_FLAGS, &results);
+    result_flags(s, COMPUTE_SIZED_FLAGS, &results);
     arithmetic(s, 1);
     operands(s, &[0, 1, 2, 3, 5, 9, 128, 256], &[0, 1, -1, 8, -8, i32::MIN, i32::MAX]);
     values(s);
@@ -263,7 +275,9 @@ pub fn all(s: &mut Session) {
 pub fn sample(s: &mut Session) {
     register_reads(s, &[0x8000_8080, 0xfedc_ba98_7654_3210, 0x7fff_7f7f, 0xffff_ffff_ffff_ffff]);
     register_writes(s, &[0x0123_4567_89ab_cdef, 0x8000_8080], 16);
-    flags(s, &[0, 1, 0x7f, 0x80, 0xfe, 0x100, 0x8000, 0x8000_0000, 0x1_0000_0000, 0x8000_0000_0000_0000]);
+    flags(s);
+    result_flags(s, COMPUTE_FLAGS, &[0, 1, 0x7f, 0x80, 0xfe, 0x100, 0x8000, 0x8000_0000, 0x1_0000_0000, 0x8000_0000_0000_0000]);
+    result_flags(s, COMPUTE_SIZED_FLAGS, &[0, 0x101, 0x180, 0xff00, 0x1_8000_0000, 0x8000_0000_0000_0000]);
     arithmetic(s, 131);
     operands(s, &[0, 9, 256], &[0, i32::MIN]);
     values(s);

@@ -1,6 +1,6 @@
 //! oracle MODE CALLS ANSWERS [SEED SEQUENCES FIRST]: writes a stream of calls, and the answers that the Rust gives, in the format of
-//! docs/FORMAT.md. Prints the number of calls on standard error, and how many of them are
-//! arithmetic, which is not the Rust's; resets, loads and shows are not counted.
+//! docs/FORMAT.md. Prints the number of calls on standard error, and how many of them are arithmetic or sized flags, which are not the Rust's;
+//! resets, loads and shows are not counted.
 //!   edges              registers, flags, arithmetic, operands, memory, walks, pushes, arguments and texts at their edges; the same at every run
 //!   random             SEQUENCES sequences of mixed calls drawn from SEED, from the one numbered FIRST on, each with a dump at its end
 //!   sample             a choice of both, for the stored sample

@@ -5,7 +5,7 @@ extern crate rust;
 mod arithmetic;
 mod reading;
 mod report;
-use arithmetic::{operate, Operation};
+use arithmetic::{operate, sized_flags, Operation};
 use rust::instruction_set::Register::{self, *};
 use rust::instruction_set::{ArgumentSize, Flags, InstructionArgument};
 use rust::machine_state::MachineState;
@@ -13,7 +13,7 @@ extern "C" {
     fn clock() -> i64;
 }
 
-const NAMES: [&str; 19] = [
+const NAMES: [&str; 20] = [
     "read 8 bytes, 1 page",
     "read 8 bytes, 16 pages",
     "read 8 bytes, 512 pages",
@@ -27,6 +27,7 @@ const NAMES: [&str; 19] = [
     "set a register, name known",
     "set a register, any name",
     "flags: compute, set, test",
+    "sized flags, any size",
     "arithmetic: add, adc, sub, sbb, cmp",
     "effective address",
     "operand text",
@@ -190,6 +191,25 @@ fn flags(turns: u64) -> u64 {
     mix(sum, m.rflags as u64)
 }
 
+fn any_bits(x: u64) -> u32 {
+    match x % 4 {
+        0 => 64,
+        1 => 32,
+        2 => 16,
+        _ => 8,
+    }
+}
+
+fn flags_at_a_size(turns: u64) -> u64 {
+    let mut m = some_machine(turns);
+    let mut sum = 1u64;
+    for _ in 0..turns {
+        m.rflags = sized_flags(sum >> 7, any_bits(sum >> 32), m.rflags as u64) as i64;
+        sum = mix(sum, m.rflags as u64);
+    }
+    sum
+}
+
 fn any_operation(x: u64) -> Operation {
     match x % 5 {
         0 => Operation::Add,
@@ -197,15 +217,6 @@ fn any_operation(x: u64) -> Operation {
         2 => Operation::Subtract,
         3 => Operation::SubtractWithBorrow,
         _ => Operation::Compare,
-    }
-}
-
-fn any_bits(x: u64) -> u32 {
-    match x % 4 {
-        0 => 64,
-        1 => 32,
-        2 => 16,
-        _ => 8,
     }
 }
 
@@ -286,17 +297,18 @@ fn run(row: u64, turns: u64) -> u64 {
         10 => sets_known(turns),
         11 => sets_any(turns),
         12 => flags(turns),
-        13 => arithmetic(turns),
-        14 => addresses(turns),
-        15 => operands(turns),
-        16 => reading::read_back(turns),
-        17 => states(turns),
+        13 => flags_at_a_size(turns),
+        14 => arithmetic(turns),
+        15 => addresses(turns),
+        16 => operands(turns),
+        17 => reading::read_back(turns),
+        18 => states(turns),
         _ => report::reports(turns),
     }
 }
 
 fn show(row: u64, turns: u64) {
-    println!("{}: {:016x}", NAMES[row.min(18) as usize], run(row, turns));
+    println!("{}: {:016x}", NAMES[row.min(19) as usize], run(row, turns));
 }
 
 #[no_mangle]
@@ -304,7 +316,7 @@ pub extern "C" fn main(_: i32, _: *const *const u8) -> i32 {
     std::panic::set_hook(Box::new(|_| {}));
     let words: Vec<u64> = std::env::args().skip(1).map(|w| w.parse().unwrap_or(0)).collect();
     if words.len() < 2 {
-        (0..19).for_each(|row| show(row, 100));
+        (0..20).for_each(|row| show(row, 100));
         return 0;
     }
     let began = unsafe { clock() };

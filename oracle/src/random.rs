@@ -135,7 +135,7 @@ fn start(s: &mut Session, g: &mut Rng, slots: usize) -> Places {
 fn one(s: &mut Session, g: &mut Rng, p: &Places) {
     if g.below(8) == 0 { return crate::texts::random(s, g, |g| p.operand(g)); }
     let size = g.below(4);
-    let mut kind = g.below(26);
+    let mut kind = g.below(27);
     if !s.room() && (matches!(kind, 3 | 4 | 5 | 7 | 8 | 10 | 11)) { kind = 0; }
     match kind {
         0..=2 => s.read(p.operand(g), size),
@@ -172,6 +172,10 @@ fn one(s: &mut Session, g: &mut Rng, p: &Places) {
             let b = match g.below(6) { 0 => a, 1 => !a, 2 => a.wrapping_neg(), _ => g.value() };
             s.arithmetic(g.below(5), size, a, b);
             // the next one would rewrite the flags
+            s.show_machine()
+        }
+        24 => {
+            s.simple(COMPUTE_SIZED_FLAGS, size, g.value(), 0);
             s.show_machine()
         }
         _ => {

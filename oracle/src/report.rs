@@ -4,7 +4,7 @@ use rust::instruction_set::Register::*;
 use rust::instruction_set::{get_register_size, ArgumentSize, Flags, InstructionArgument, Register};
 use std::ops::Range;
 
-/// The calls of 01's table, and of 02, No. 2. What a call holds besides its operand or flag reads and rewrites nothing.
+/// The calls of 01's table, and of 02, No. 2 and No. 4. What a call holds besides its operand or flag reads and rewrites nothing.
 #[allow(dead_code)]
 enum Call {
     ReadOperand(InstructionArgument),
@@ -17,6 +17,7 @@ enum Call {
     TestFlag(Flags),
     SetFlag(Flags),
     ComputeFlags(u64),
+    ComputeSizedFlags(u64),
     Arithmetic(Operation),
 }
 
@@ -107,7 +108,7 @@ fn reads(call: &Call, see: &mut dyn FnMut(Range<usize>)) {
         Call::ReadMemory | Call::WriteMemory(_) => see(CR3_LANES),
         Call::TestFlag(ref f) => see(flag_place(f)),
         Call::Arithmetic(Operation::AddWithCarry | Operation::SubtractWithBorrow) => see(flag_place(&Flags::Carry)),
-        Call::SetFlag(_) | Call::ComputeFlags(_) | Call::Arithmetic(_) => (),
+        Call::SetFlag(_) | Call::ComputeFlags(_) | Call::ComputeSizedFlags(_) | Call::Arithmetic(_) => (),
     }
 }
 
@@ -116,7 +117,7 @@ fn rewrites(call: &Call, see: &mut dyn FnMut(Range<usize>)) {
         Call::WriteOperand(InstructionArgument::Register { ref register }) => see(lanes(register, true)),
         Call::Push | Call::Pop => see(RSP_LANES),
         Call::SetFlag(ref f) => see(flag_place(f)),
-        Call::ComputeFlags(_) => see(177..180),
+        Call::ComputeFlags(_) | Call::ComputeSizedFlags(_) => see(177..180),
         Call::Arithmetic(_) => {
             // all but Direction
             see(176..180);

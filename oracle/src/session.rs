@@ -1,6 +1,7 @@
 //! One session: the Rust's machine, the directory that 01's rule gives, and the two streams of docs/FORMAT.md. Each call is written to the one,
-//! carried out by the Rust, and its answer written to the other. Arithmetic is ours (arithmetic.rs), on the Rust's rflags.
-use crate::arithmetic::{by_the_rules, operate, OPERATIONS};
+//! carried out by the Rust, and its answer written to the other. Arithmetic and the sized form of compute_flags are ours (arithmetic.rs), on the
+//! Rust's rflags.
+use crate::arithmetic::{by_the_rules, operate, sign_extended, sized_flags, OPERATIONS};
 use rust::instruction_set::*;
 use rust::machine_state::MachineState;
 use rust::mmu;
@@ -22,6 +23,7 @@ pub const SET_FLAG: u64 = 9;
 pub const COMPUTE_FLAGS: u64 = 10;
 pub const READ_BYTE: u64 = 11;
 const ARITHMETIC: u64 = 12;
+pub const COMPUTE_SIZED_FLAGS: u64 = 13;
 pub const SIZE: u64 = 16;
 pub const ONE: u64 = 17;
 pub const TWO: u64 = 18;
@@ -185,7 +187,7 @@ pub struct Session {
     answers: BufWriter<File>,
     pub printed: Printed,
     pub counted: u64,
-    /// Those that are not the Rust's: arithmetic.
+    /// Those that are not the Rust's: arithmetic and the sized flags.
     pub ours: u64,
 }
 
@@ -309,7 +311,7 @@ impl Session {
         a[3..6].copy_from_slice(&event(&line));
         self.put(&h, block, a, &lent);
         self.counted += 1;
-        self.ours += (h[0] == ARITHMETIC) as u64;
+        self.ours += matches!(h[0], ARITHMETIC | COMPUTE_SIZED_FLAGS) as u64;
     }
 
     pub fn read(&mut self, op: Op, size: u64) { self.on_operand(READ, op, size, 0) }
@@ -353,7 +355,7 @@ impl Session {
     }
 }
 
-/// The Rust's own answer to one record: what the value is (0 nothing, 1 a value, 2 a truth), and the value.
+/// The answer to one record, the Rust's own but for arithmetic and the sized flags: what the value is (0 nothing, 1 a value, 2 a truth), and the value.
 fn carry_out(h: &[u64; 16], m: &mut MachineState, lent: &mut Vec<u8>, touched: &mut Option<(u64, u64)>) -> (u64, u64) {
     let first: Op = h[6..11].try_into().unwrap();
     match h[0] {
@@ -401,6 +403,13 @@ fn carry_out(h: &[u64; 16], m: &mut MachineState, lent: &mut Vec<u8>, touched: &
             assert!(operate(operation, bits, h[3], h[4], before) == (answer, rflags), "two forms of arithmetic differ: {:?}", &h[2..6]);
             m.rflags = rflags as i64;
             answer.map_or((0, 0), |v| (1, v))
+        }
+        COMPUTE_SIZED_FLAGS => {
+            let rflags = sized_flags(h[3], 64 >> h[2], m.rflags as u64);
+            // on a result that is extended from its size the Rust's own form gives the same
+            m.compute_flags(sign_extended(h[3], 64 >> h[2]) as i64, size(h[2]));
+            assert!(m.rflags as u64 == rflags, "the Rust's flags of the extended result differ: {:?}", &h[2..4]);
+            (0, 0)
         }
         _ => {
             let args = built(h);

@@ -1,7 +1,7 @@
 // Every tabled call, of 01 and of 02, as one value, and the function that carries one out. Below is machine_state, whose methods do the work; above
 // are rows, which says which places a call reads and rewrites, and the programs that read calls from outside.
-// Document 01: "Places and calls"; document 02: No. 2. The arguments of a call are fixed in its value; the bytes that push and write memory write,
-// and the buffer that read memory fills, are lent beside it.
+// Document 01: "Places and calls"; document 02: No. 2, No. 4. The arguments of a call are fixed in its value; the bytes that push and write memory
+// write, and the buffer that read memory fills, are lent beside it.
 use arithmetic::Operation;
 use instruction_set::ArgumentSize;
 use instruction_set::Flags;
@@ -47,6 +47,10 @@ pub enum Call {
         value: bool,
     },
     ComputeFlags {
+        result: u64,
+        size: ArgumentSize,
+    },
+    ComputeSizedFlags {
         result: u64,
         size: ArgumentSize,
     },
@@ -131,6 +135,11 @@ pub fn perform(
         ),
         Call::ComputeFlags { result, size } => keep(
             machine.compute_flags(result, size).machine,
+            used,
+            Answer::Done,
+        ),
+        Call::ComputeSizedFlags { result, size } => keep(
+            machine.compute_sized_flags(result, size).machine,
             used,
             Answer::Done,
         ),

@@ -79,7 +79,7 @@ fn lent_length(header: Header) -> usize {
     let kind = header.kind;
     match kind {
         6 | 32 | 33 | 34 | 35 | 36 | 37 => header.b as usize,
-        1 | 2 | 3 | 4 | 5 | 7 | 8 | 9 | 10 | 12 | 25 => header.length as usize,
+        1 | 2 | 3 | 4 | 5 | 7 | 8 | 9 | 10 | 12 | 13 | 25 => header.length as usize,
         _ => 8192,
     }
 }

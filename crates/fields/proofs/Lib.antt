@@ -1,3 +1,4 @@
 pub mod BitOf
 pub mod PartLaws
 pub mod FlagLaws
+pub mod SizedFlags

@@ -1,4 +1,4 @@
--- The flags of 01, "Registers and flags", as bits of a word, and what `compute_flags` looks at in a result.
+-- The flags of 01, "Registers and flags", as bits of a word, and what `compute_flags` looks at in a result; the sized form of 02, No. 4.
 use mathlib.Core.Bool.{Bool, true, false}
 use Prim.Native.Nat.{ℕ, _-_, _*_, _%_, _^_}
 use lib.Count.{ones}
@@ -8,6 +8,7 @@ use Rattle.instruction_set.specs.Sizes.{bytesOf, bitOf}
 use Rattle.instruction_set.specs.declared.ArgumentSize.{ArgumentSize}
 use Rattle.instruction_set.specs.declared.Flags.{Flags}
 use Rattle.instruction_set.specs.declared.Flags.the-variants.{Parity, Zero, Sign}
+use Rattle.fields.specs.Parts.{lowBits}
 
 -- bit k of a word
 unfoldable pub bitSet : ℕ → ℕ → Bool
@@ -32,6 +33,14 @@ signIn s x = bitSet (8 * bytesOf s - 1) x
 unfoldable pub evenOnes : ℕ → Bool
 evenOnes x = eqb (ones (x % 2 ^ 8) % 2) 0
 
--- "Zero if the whole 64-bit result is 0 whatever the size"; other bits of rflags stay
+-- rflags after a result: Zero as told, Sign and Parity of the result; other bits of rflags stay
+abbrev pub resultFlags : ℕ → Bool → ℕ → ArgumentSize → ℕ
+resultFlags x b v s = putFlag (putFlag (putFlag x Zero b) Sign (signIn s v)) Parity (evenOnes v)
+
+-- "Zero if the whole 64-bit result is 0 whatever the size"
 abbrev pub computedFlags : ℕ → ℕ → ArgumentSize → ℕ
-computedFlags x v s = putFlag (putFlag (putFlag x Zero (eqb v 0)) Sign (signIn s v)) Parity (evenOnes v)
+computedFlags x v s = resultFlags x (eqb v 0) v s
+
+-- 02, No. 4: "Zero and Sign both look at the low 8, 16, 32 or 64 bits"
+abbrev pub sizedFlags : ℕ → ℕ → ArgumentSize → ℕ
+sizedFlags x v s = resultFlags x (eqb (lowBits s v) 0) v s

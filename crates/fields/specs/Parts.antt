@@ -2,6 +2,7 @@
 use Prim.Native.Nat.{ℕ, _*_, _%_, _^_}
 use Rattle.utils.specs.Word.{cut, put, extend}
 use Rattle.instruction_set.specs.Registers.{firstOf, readsOf, rewritesOf}
+use Rattle.instruction_set.specs.Sizes.{bytesOf}
 use Rattle.instruction_set.specs.declared.ArgumentSize.{ArgumentSize}
 use Rattle.instruction_set.specs.declared.ArgumentSize.the-variants.{Bit64, Bit32, Bit16, Bit8}
 use Rattle.instruction_set.specs.declared.Part.{Part}
@@ -20,3 +21,7 @@ memoryValue Bit64 x = x
 memoryValue Bit32 x = extend 32 x
 memoryValue Bit16 x = extend 16 x
 memoryValue Bit8 x = x % 2 ^ 8
+
+-- a value's low bits, as many as the size has
+abbrev pub lowBits : ArgumentSize → ℕ → ℕ
+lowBits s v = cut v 0 (8 * bytesOf s)

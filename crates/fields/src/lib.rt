@@ -1,15 +1,13 @@
 // Fields of a word: the part of its parent that a register is, and the flag that a bit of rflags is. Everything here goes from words to words;
 // machine_state, above, keeps the words. Below are instruction_set, which says where each field stands, and utils, which has the law of fields.
-// Document 01: the table of "Registers and flags", and what `compute_flags` looks at.
+// Document 01: the table of "Registers and flags", and what `compute_flags` looks at; document 02: its sized form, No. 4.
 use instruction_set::ArgumentSize;
 use instruction_set::Flags;
 use instruction_set::Part;
 ghost use mathlib.Core.Path.{_≡_};
 ghost use Prim.Native.Nat.{_+_, _*_, _/_, _%_, _^_};
-ghost use Rattle.utils.specs.Word.{cut};
-ghost use Rattle.instruction_set.specs.Sizes.{bytesOf};
-ghost use Rattle.fields.specs.Parts.{readOf, writeOf, memoryValue};
-ghost use Rattle.fields.specs.FlagBits.{flagOf, putFlag, signIn, evenOnes, computedFlags};
+ghost use Rattle.fields.specs.Parts.{readOf, writeOf, memoryValue, lowBits};
+ghost use Rattle.fields.specs.FlagBits.{flagOf, putFlag, signIn, evenOnes, computedFlags, sizedFlags};
 
 // The part's lanes of its parent, sign-extended.
 pub fn read_part(part: Part, x: u64) -> u64
@@ -61,7 +59,7 @@ pub fn memory_value(word: u64, size: ArgumentSize) -> u64
 
 // The value's low bits, as many as the size has.
 pub fn cut_to(x: u64, size: ArgumentSize) -> u64
-    ensures { λ r. ⌜ r ≡ cut x 0 (8 * bytesOf size) ⌝ }
+    ensures { λ r. ⌜ r ≡ lowBits size x ⌝ }
 {
     match size {
         ArgumentSize::Bit64 => x,
@@ -113,4 +111,11 @@ pub fn computed_flags(x: u64, result: u64, size: ArgumentSize) -> u64
     let zero = with_flag(x, Flags::Zero, result == 0);
     let sign = with_flag(zero, Flags::Sign, sign_bit(result, size));
     with_flag(sign, Flags::Parity, even_parity(result))
+}
+
+// rflags after a result, by the manual's rule: Zero too looks at the low bits alone, as many as the size has.
+pub fn sized_flags(x: u64, result: u64, size: ArgumentSize) -> u64
+    ensures { λ r. ⌜ r ≡ sizedFlags x result size ⌝ }
+{
+    computed_flags(x, cut_to(result, size), size)
 }

@@ -1,10 +1,12 @@
--- Arithmetic by number on a machine that is lent as its words (02, No. 2), for a host that is not written in Rattle.
-use mathlib.Core.Bool.{cond}
+-- Arithmetic (02, No. 2) and the sized flags of a result (No. 4), by number, on a machine that is lent as its words, for a host that is not
+-- written in Rattle.
+use mathlib.Core.Bool.{Bool, true, false, cond}
 use mathlib.Core.List.{List}
 use Prim.Native.Nat.{ℕ}
 use lib.ListN.{getD, set}
 use Rattle.instruction_set.specs.declared.SomeSize.{SomeSize}
 use Rattle.instruction_set.specs.declared.SomeSize.the-variants as size
+use Rattle.fields.specs.FlagBits.{sizedFlags}
 use Rattle.arithmetic.specs.Sums.{givesValue, computedOf}
 use Rattle.arithmetic.specs.declared.Operation.{Operation}
 use Rattle.numbers.specs.declared.SomeOperation.{SomeOperation}
@@ -38,3 +40,12 @@ operatedOn (operation.Present o) size.Absent w a b = lentAfter w unnamedAnswer
 operatedOn (operation.Present o) (size.Present s) w a b =
     let r = computedOf (getD w 22 0) o s a b in
     lentAfter (set w 22 (r .rflags)) (answerTo o (r .value))
+
+-- the flags of a result: whether the size's number names one, and word 22, which alone changes, and only then
+abbrev pub namesSize : SomeSize → Bool
+namesSize size.Absent = false
+namesSize (size.Present s) = true
+
+unfoldable pub sizedFlagsOn : SomeSize → List ℕ → ℕ → List ℕ
+sizedFlagsOn size.Absent w v = w
+sizedFlagsOn (size.Present s) w v = set w 22 (sizedFlags (getD w 22 0) v s)

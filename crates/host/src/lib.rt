@@ -1,9 +1,10 @@
 // A host keeps one machine and lends it: a flag is set in the machine behind a reference, through the by-value call of machine_state, from Rattle
-// (`set_flag`) or from C and Rust (`ruonasvel_set_flag`); and two values are added, subtracted or compared with its rflags, from C and Rust
-// (`ruonasvel_arithmetic`). Both are declared in host/ruonasvel.h. Below are instruction_set and machine_state, arithmetic, which has the
-// operations, and numbers, which names them; above is only the host. tools/link links this crate to programs in C.
+// (`set_flag`) or from C and Rust (`ruonasvel_set_flag`); and, from C and Rust, two values are added, subtracted or compared with its rflags
+// (`ruonasvel_arithmetic`), or the flags of a result are computed at its size (`ruonasvel_compute_sized_flags`). Those for C are declared in
+// host/ruonasvel.h. Below are instruction_set and machine_state, arithmetic, which has the operations, fields, which has the flags of a result,
+// and numbers, which names operations and sizes; above is only the host. tools/link links this crate to programs in C.
 // Document 01: "After the core, the host keeps one machine and lends it to set a flag"; the flags' numbers are those of "Places and calls".
-// Document 02: No. 2.
+// Document 02: No. 2, No. 4.
 use arithmetic::Operation;
 use instruction_set::Flags;
 use instruction_set::SomeSize;
@@ -13,7 +14,7 @@ ghost use mathlib.Core.Path.{_≡_};
 ghost use Rattle.machine_state.specs.Flagged.{setFlag};
 ghost use Rattle.numbers.specs.Numbers.{sizeAt, operationAt};
 ghost use Rattle.host.specs.Numbered.{flagAt, names, isSet, setNumbered};
-ghost use Rattle.host.specs.LentWords.{lentAfter, unnamedAnswer, namedAnswer, answerTo, operatedOn};
+ghost use Rattle.host.specs.LentWords.{lentAfter, unnamedAnswer, namedAnswer, answerTo, operatedOn, namesSize, sizedFlagsOn};
 
 // The by-value call's event is always Quiet, so nothing of its answer is lost.
 pub fn set_flag(m: &mut MachineState, flag: Flags, value: bool)
@@ -129,4 +130,21 @@ fn answer_to(operation: Operation, value: u64) -> ArithmeticAnswer
         return named(1, value);
     }
     named(0, 0)
+}
+
+// The flags of a result at its size, in the machine lent as its 25 words. A number that names no size changes no word and answers false.
+#[no_mangle]
+pub extern "C" fn ruonasvel_compute_sized_flags(
+    machine: &mut [u64; 25],
+    result: u64,
+    size: u64,
+) -> bool
+    ensures { λ r. ⌜ (now (machine .exit) ≡ sizedFlagsOn (sizeAt size) (now (machine .entry)) result) × (r ≡ namesSize (sizeAt size)) ⌝ }
+{
+    let sized = numbers::size_at(size);
+    let SomeSize::Present(width) = sized else {
+        return false;
+    };
+    machine[22] = fields::sized_flags(machine[22], result, width);
+    true
 }

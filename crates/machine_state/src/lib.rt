@@ -1,7 +1,7 @@
 // The machine: its registers and flags, and the calls on them. A machine goes in by value and comes back inside the answer of every call that
 // may change it. Below are instruction_set, which names registers and operands, fields, which reads and rewrites parts of words, and arithmetic,
 // which works out sums and differences with their flags; above are text, calls and the programs.
-// Document 01: "Registers and flags", the effective address of "Addresses, pages, walk", refusals 1 and 3. Document 02: No. 2.
+// Document 01: "Registers and flags", the effective address of "Addresses, pages, walk", refusals 1 and 3. Document 02: No. 2, No. 4.
 use arithmetic::Operation;
 use instruction_set::ArgumentSize;
 use instruction_set::Flags;
@@ -11,7 +11,7 @@ use instruction_set::SomeRegister;
 use instruction_set::SomeScale;
 ghost use mathlib.Core.Path.{_≡_};
 ghost use Rattle.machine_state.specs.Machine.{newMachine, readReg, writeReg, eventOf, changed};
-ghost use Rattle.machine_state.specs.Flagged.{flagIn, setFlag, computeFlags};
+ghost use Rattle.machine_state.specs.Flagged.{flagIn, setFlag, computeFlags, computeSizedFlags};
 ghost use Rattle.machine_state.specs.Operating.{answerOf, operated};
 ghost use Rattle.machine_state.specs.Address.{baseOf, addressOf};
 ghost use Rattle.machine_state.specs.Answers.{addressOutcome};
@@ -145,6 +145,17 @@ impl MachineState {
         ensures { λ r. ⌜ r ≡ changed (computeFlags self result «argument_size») Quiet ⌝ }
     {
         self.rflags = fields::computed_flags(self.rflags, result, argument_size);
+        Changed {
+            machine: self,
+            event: Event::Quiet,
+        }
+    }
+
+    // Zero, Sign and Parity of a result as the processor has them: unlike that of `compute_flags`, this Zero is of the bits of the size.
+    pub fn compute_sized_flags(mut self, result: u64, size: ArgumentSize) -> Changed
+        ensures { λ r. ⌜ r ≡ changed (computeSizedFlags self result size) Quiet ⌝ }
+    {
+        self.rflags = fields::sized_flags(self.rflags, result, size);
         Changed {
             machine: self,
             event: Event::Quiet,

@@ -1,10 +1,8 @@
 -- The text of operands (01, "Text"). An absent scale leaves its place empty here; the calls of text then give 3 (`lacksScale`,
 -- instruction_set/specs/Operands.antt).
 use mathlib.Core.List.{List, [], _++_}
-use Prim.Native.Nat.{ℕ, suc, _*_}
+use Prim.Native.Nat.{ℕ, suc}
 use lib.IntN.{ℤ, pos, negsuc}
-use Rattle.utils.specs.Word.{cut}
-use Rattle.instruction_set.specs.Sizes.{bytesOf}
 use Rattle.instruction_set.specs.declared.ArgumentSize.{ArgumentSize}
 use Rattle.instruction_set.specs.declared.InstructionArgument.{InstructionArgument}
 use Rattle.instruction_set.specs.declared.InstructionArgument.the-variants as arg
@@ -15,13 +13,14 @@ use Rattle.instruction_set.specs.declared.SomeRegister.{SomeRegister}
 use Rattle.instruction_set.specs.declared.SomeRegister.the-variants as reg
 use Rattle.instruction_set.specs.declared.SomeScale.{SomeScale}
 use Rattle.instruction_set.specs.declared.SomeScale.the-variants as scale
+use Rattle.fields.specs.Parts.{lowBits}
 use Rattle.pieces.specs.Ascii.{ascii, decimalText}
 use Rattle.pieces.specs.Hex.{hexText}
 use Rattle.register_names.specs.Names.{registerText}
 
 -- "Immediate: `$0x` and hex cut to the size"
 abbrev pub immediateText : ArgumentSize → ℕ → List ℕ
-immediateText size v = ascii "$0x" ++ hexText (cut v 0 (8 * bytesOf size))
+immediateText size v = ascii "$0x" ++ hexText (lowBits size v)
 
 -- "signed hex displacement (`0x0` for 0)"
 abbrev pub displacementText : ℤ → List ℕ

@@ -10,7 +10,7 @@ mod registers; // registers.rt
 mod report; // report.rt
 mod texts; // texts.rt
 
-const ROWS: u64 = 19;
+const ROWS: u64 = 20;
 
 // A row's sum takes in an answer.
 pub(crate) fn mix(sum: u64, answer: u64) -> u64 {
@@ -60,11 +60,12 @@ fn name(row: u64) -> bool {
         10 => say(b"set a register, name known"),
         11 => say(b"set a register, any name"),
         12 => say(b"flags: compute, set, test"),
-        13 => say(b"arithmetic: add, adc, sub, sbb, cmp"),
-        14 => say(b"effective address"),
-        15 => say(b"operand text"),
-        16 => say(b"operand text read back"),
-        17 => say(b"state text"),
+        13 => say(b"sized flags, any size"),
+        14 => say(b"arithmetic: add, adc, sub, sbb, cmp"),
+        15 => say(b"effective address"),
+        16 => say(b"operand text"),
+        17 => say(b"operand text read back"),
+        18 => say(b"state text"),
         _ => say(b"exposed report of 64 calls"),
     }
 }
@@ -77,13 +78,13 @@ fn run(row: u64, turns: u64, dir: &mut [u64], bytes: &mut [u8]) -> u64 {
     if row < 8 {
         return memory::run(row, turns, dir, bytes);
     }
-    if row < 15 {
+    if row < 16 {
         return registers::run(row, turns);
     }
     match row {
-        15 => texts::operands(turns),
-        16 => texts::read_back(turns),
-        17 => texts::states(turns),
+        16 => texts::operands(turns),
+        17 => texts::read_back(turns),
+        18 => texts::states(turns),
         _ => report::reports(turns),
     }
 }

@@ -113,6 +113,29 @@ fn flags(turns: u64) -> u64 {
     mix(sum, now.rflags)
 }
 
+fn any_size(x: u64) -> ArgumentSize {
+    match x % 4 {
+        0 => ArgumentSize::Bit64,
+        1 => ArgumentSize::Bit32,
+        2 => ArgumentSize::Bit16,
+        _ => ArgumentSize::Bit8,
+    }
+}
+
+// A turn computes the flags of a result at a size, which the sum picks; it takes in all flags.
+fn sized_flags(turns: u64) -> u64 {
+    let mut now = some_machine(turns);
+    let mut sum: u64 = 1;
+    let mut i: u64 = 0;
+    while i < turns {
+        now = now.compute_sized_flags(sum >> 7, any_size(sum >> 32))
+            .machine;
+        sum = mix(sum, now.rflags);
+        i += 1;
+    }
+    sum
+}
+
 fn any_operation(x: u64) -> Operation {
     match x % 5 {
         0 => Operation::Add,
@@ -120,15 +143,6 @@ fn any_operation(x: u64) -> Operation {
         2 => Operation::Subtract,
         3 => Operation::SubtractWithBorrow,
         _ => Operation::Compare,
-    }
-}
-
-fn any_size(x: u64) -> ArgumentSize {
-    match x % 4 {
-        0 => ArgumentSize::Bit64,
-        1 => ArgumentSize::Bit32,
-        2 => ArgumentSize::Bit16,
-        _ => ArgumentSize::Bit8,
     }
 }
 
@@ -204,7 +218,8 @@ pub(crate) fn run(row: u64, turns: u64) -> u64 {
         10 => sets_known(turns),
         11 => sets_any(turns),
         12 => flags(turns),
-        13 => operations(turns),
+        13 => sized_flags(turns),
+        14 => operations(turns),
         _ => addresses(turns),
     }
 }

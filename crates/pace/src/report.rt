@@ -9,7 +9,7 @@ use instruction_set::ArgumentSize;
 use instruction_set::Flags;
 use instruction_set::InstructionArgument;
 
-// A call of each kind, by the sum.
+// A call of one of eight kinds, by the sum.
 fn any_call(x: u64) -> Call {
     let size = ArgumentSize::Bit32;
     let register = InstructionArgument::Register {

@@ -30,7 +30,7 @@ use Rattle.machine_state.specs.declared.Event.the-variants.{Quiet}
 use Rattle.machine_state.specs.declared.MachineState.{MachineState}
 use Rattle.calls.specs.Step.{step, beside}
 use Rattle.calls.specs.declared.Call.the-variants.{ReadOperand, WriteOperand, EffectiveAddress, Push, Pop, ReadMemory, WriteMemory}
-use Rattle.calls.specs.declared.Call.the-variants.{TestFlag, SetFlag, ComputeFlags, Arithmetic}
+use Rattle.calls.specs.declared.Call.the-variants.{TestFlag, SetFlag, ComputeFlags, ComputeSizedFlags, Arithmetic}
 use Rattle.promises.specs.Untouched.{Untouched, RefusedUntouched}
 
 -- ---- memory's outcomes give no value
@@ -176,4 +176,5 @@ refused-untouched (WriteMemory a) m s l h = write-untouched m s a l h
 refused-untouched (TestFlag f) m s l h = absurd (h refl)
 refused-untouched (SetFlag f b) m s l h = absurd (h refl)
 refused-untouched (ComputeFlags x z) m s l h = absurd (h refl)
+refused-untouched (ComputeSizedFlags x z) m s l h = absurd (h refl)
 refused-untouched (Arithmetic o z a b) m s l h = absurd (h (never-refused o z a b m))

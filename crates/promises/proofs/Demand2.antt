@@ -16,7 +16,7 @@ use Rattle.utils.proofs.Bools.{tested}
 use Rattle.utils.specs.Bytes.{toBytes, fromBytes}
 use Rattle.utils.proofs.Bytes.{from-to, length-toBytes}
 use Rattle.instruction_set.specs.Sizes.{bytesOf}
-use Rattle.fields.specs.Parts.{memoryValue}
+use Rattle.fields.specs.Parts.{memoryValue, lowBits}
 use Rattle.utils.specs.Outcome.{gives, accepted}
 use Rattle.utils.specs.Word.{cut, lane}
 use Rattle.instruction_set.specs.Registers.{row}
@@ -40,7 +40,7 @@ use Rattle.mmu.proofs.Laws.{law-out, law-byte, law-read, law-sound, law-walk, l
 use Rattle.walk.proofs.Walked.{physical-off}
 use Rattle.machine_state.specs.Address.{addressOf}
 use Rattle.machine_state.specs.Answers.{word, After}
-use Rattle.machine_state.specs.Flagged.{setFlag, computeFlags}
+use Rattle.machine_state.specs.Flagged.{setFlag}
 use Rattle.machine_state.specs.Memory.{rsp, cr3, withRsp, after, passed, readMemory, writeMemory, loaded, storedAt, readOperand}
 use Rattle.machine_state.specs.Memory.{writeOperand, below, pushed, popped}
 use Rattle.machine_state.specs.Operating.{operated}
@@ -50,17 +50,17 @@ use Rattle.machine_state.proofs.Lanes.{write-read}
 use Rattle.calls.specs.Step.{step}
 use Rattle.calls.specs.declared.Call.{Call}
 use Rattle.calls.specs.declared.Call.the-variants.{ReadOperand, WriteOperand, EffectiveAddress, Push, Pop, ReadMemory, WriteMemory}
-use Rattle.calls.specs.declared.Call.the-variants.{TestFlag, SetFlag, ComputeFlags, Arithmetic}
+use Rattle.calls.specs.declared.Call.the-variants.{TestFlag, SetFlag, ComputeFlags, ComputeSizedFlags, Arithmetic}
 use Rattle.rows.specs.Exposed.{end}
 use Rattle.rows.specs.Places.{Act, State, Sound, place, does, rewrites}
-use Rattle.rows.specs.Rows.{nothing as noSpans, flagPlace, flagSpan, rewriteSpan, rewritesOf, inSpan, inSpans}
+use Rattle.rows.specs.Rows.{nothing as noSpans, flagPlace, flagSpan, rewriteSpan, threeFlags, rewritesOf, inSpan, inSpans}
 use Rattle.rows.proofs.Owed.{owes, three-flags}
-use Rattle.rows.proofs.Places.{Renews, write-new, flag-new, flag-renews, flagged, rsp-written}
+use Rattle.rows.proofs.Places.{Renews, write-new, flag-new, flag-renews, resulted, flagged, rsp-written}
 use Rattle.rows.proofs.Theorem.{stays-sound}
 use Rattle.rows.proofs.Within.{in-low, in-high, one-only, fiveInTurn, five-flags, nothing-in}
 use Rattle.promises.specs.Demand2.{ReadsBack, WalkStays, OthersStay, PopsBack, RegistersBack, OperandsBack, FlagsBack, Given}
-use Rattle.promises.specs.Demand2.{nothing, ifSo, holding, last, byteWritten, byteGiven, BytesLast, placeValue, placeGiven}
-use Rattle.promises.specs.Demand2.{PlacesLast, slotsFor, slotsTaken, allTaken, CountRule}
+use Rattle.promises.specs.Demand2.{nothing, ifSo, holding, last, byteWritten, byteGiven, BytesLast, resultFlagAt, placeValue}
+use Rattle.promises.specs.Demand2.{placeGiven, PlacesLast, slotsFor, slotsTaken, allTaken, CountRule}
 use Rattle.promises.specs.Refusals.{Access, none, reading, writing, accessOf}
 use Rattle.promises.proofs.Demand1.{refused-untouched}
 
@@ -211,6 +211,7 @@ accessed (WriteMemory a) m s l = record { store = refl; number = refl }
 accessed (TestFlag f) m s l = record { store = refl; number = tt }
 accessed (SetFlag f b) m s l = record { store = refl; number = tt }
 accessed (ComputeFlags x z) m s l = record { store = refl; number = tt }
+accessed (ComputeSizedFlags x z) m s l = record { store = refl; number = tt }
 accessed (Arithmetic o z a b) m s l = record { store = refl; number = tt }
 
 -- what no test decides
@@ -352,20 +353,20 @@ at-some P w (f ∷ fs) p first all h = at-some P (λ q. w q || inSpan (flagSpan 
     go (inl t) e = first t
     go (inr n) e = subst P (at-flag f p (rw n at e)) (all .0)
 
--- `compute_flags` sets Zero, then Sign, then Parity
-computed-new : (m : MachineState) (v : ℕ) (z : ArgumentSize) (p : ℕ) → Sound m
-    → ((inSpan (flagSpan Zero) p || inSpan (flagSpan Sign) p) || inSpan (flagSpan Parity) p) ≡ true
-    → place (computeFlags m v z) p ≡ boolBit (getD (evenOnes v ∷ eqb v 0 ∷ signIn z v ∷ []) (p - 177) false)
+-- the flags of a result: Zero, then Sign, then Parity
+result-new : (m : MachineState) (b : Bool) (v : ℕ) (z : ArgumentSize) (p : ℕ) → Sound m → inSpans threeFlags p ≡ true
+    → place (resulted b v z m) p ≡ resultFlagAt b v z p
 unfolding inSpan
-computed-new m v z p g h =
+result-new m b v z p g h =
     all-set settings m p _ g refl
-    ∙ at-some Found (inSpan (flagSpan Zero)) (Sign ∷ Parity ∷ []) p (λ t. subst Found (at-flag Zero p t) refl) (refl, (refl, tt)) h
+    ∙ at-some Found (inSpan (flagSpan Zero)) (Sign ∷ Parity ∷ []) p (λ t. subst Found (at-flag Zero p t) refl) (refl, (refl, tt))
+    (sym (three-flags p) ∙ h)
   where
     settings : List Setting
-    settings = setting Zero (eqb v 0) ∷ setting Sign (signIn z v) ∷ setting Parity (evenOnes v) ∷ []
+    settings = setting Zero b ∷ setting Sign (signIn z v) ∷ setting Parity (evenOnes v) ∷ []
 
     Found : ℕ → Type 0
-    Found k = heldAt settings k (place m k) ≡ boolBit (getD (evenOnes v ∷ eqb v 0 ∷ signIn z v ∷ []) (k - 177) false)
+    Found k = heldAt settings k (place m k) ≡ resultFlagAt b v z k
 
 -- an operation sets Carry, Parity, Zero, Sign, Overflow
 operated-new : (m : MachineState) (z : ArgumentSize) (r : Sum) (p : ℕ) → Sound m → fiveInTurn p ≡ true
@@ -411,7 +412,8 @@ place-new (ReadMemory a) m s l p g o h = no-row p _ _ h
 place-new (WriteMemory a) m s l p g o h = no-row p _ _ h
 place-new (TestFlag f) m s l p g o h = no-row p _ _ h
 place-new (SetFlag f b) m s l p g o h = one-flag m g p f b (sym (one-only (flagSpan f) p) ∙ h)
-place-new (ComputeFlags v z) m s l p g o h = computed-new m v z p g (sym (three-flags p) ∙ h)
+place-new (ComputeFlags v z) m s l p g o h = result-new m (eqb v 0) v z p g h
+place-new (ComputeSizedFlags v z) m s l p g o h = result-new m (eqb (lowBits z v) 0) v z p g h
 place-new (Arithmetic o e a b) m s l p g w h = operated-new m e (workedAt (m .rflags) o e a b) p g (sym (five-flags p) ∙ h)
 
 one-place : (p : ℕ) (a : Act) (x : State) → Sound (x .machine)

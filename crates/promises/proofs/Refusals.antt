@@ -29,7 +29,7 @@ use Rattle.machine_state.specs.declared.MachineState.{MachineState}
 use Rattle.calls.specs.Step.{step}
 use Rattle.calls.specs.declared.Call.{Call}
 use Rattle.calls.specs.declared.Call.the-variants.{ReadOperand, WriteOperand, EffectiveAddress, Push, Pop, ReadMemory, WriteMemory}
-use Rattle.calls.specs.declared.Call.the-variants.{TestFlag, SetFlag, ComputeFlags, Arithmetic}
+use Rattle.calls.specs.declared.Call.the-variants.{TestFlag, SetFlag, ComputeFlags, ComputeSizedFlags, Arithmetic}
 use Rattle.rows.specs.Rows.{reaches}
 use Rattle.promises.specs.Refusals.{accessOf, Check, check, checks, firstHeld, noneHolds, RefusedInOrder, AcceptedExactly}
 use Rattle.promises.proofs.Demand1.{never-refused}
@@ -132,6 +132,7 @@ refused-in-order (WriteMemory a) m s l = write-number s (physical s (cr3 m) a) (
 refused-in-order (TestFlag f) m s l = refl
 refused-in-order (SetFlag f b) m s l = refl
 refused-in-order (ComputeFlags x z) m s l = refl
+refused-in-order (ComputeSizedFlags x z) m s l = refl
 refused-in-order (Arithmetic o z a b) m s l = never-refused o z a b m
 
 -- ---- accepted: no number of the table is 0
@@ -163,6 +164,7 @@ numbered (WriteMemory a) m s l = refl
 numbered (TestFlag f) m s l = refl
 numbered (SetFlag f b) m s l = refl
 numbered (ComputeFlags x z) m s l = refl
+numbered (ComputeSizedFlags x z) m s l = refl
 numbered (Arithmetic o z a b) m s l = refl
 
 pub accepted-exactly : AcceptedExactly

@@ -16,7 +16,7 @@ use Rattle.instruction_set.specs.declared.InstructionArgument.{InstructionArgum
 use Rattle.instruction_set.specs.declared.InstructionArgument.the-variants as arg
 use Rattle.instruction_set.specs.Sizes.{bytesOf}
 use Rattle.instruction_set.specs.declared.ArgumentSize.{ArgumentSize}
-use Rattle.fields.specs.Parts.{memoryValue}
+use Rattle.fields.specs.Parts.{memoryValue, lowBits}
 use Rattle.instruction_set.specs.declared.Flags.{Flags}
 use Rattle.instruction_set.specs.declared.Register.{Register}
 use Rattle.fields.specs.FlagBits.{boolBit, evenOnes, signIn}
@@ -31,7 +31,7 @@ use Rattle.machine_state.specs.declared.Event.the-variants.{Quiet}
 use Rattle.machine_state.specs.declared.MachineState.{MachineState}
 use Rattle.calls.specs.declared.Call.{Call}
 use Rattle.calls.specs.declared.Call.the-variants.{ReadOperand, WriteOperand, EffectiveAddress, Push, Pop, ReadMemory, WriteMemory}
-use Rattle.calls.specs.declared.Call.the-variants.{TestFlag, SetFlag, ComputeFlags, Arithmetic}
+use Rattle.calls.specs.declared.Call.the-variants.{TestFlag, SetFlag, ComputeFlags, ComputeSizedFlags, Arithmetic}
 use Rattle.rows.specs.Exposed.{end}
 use Rattle.rows.specs.Places.{Act, State, Sound, place, does, rewrites}
 use Rattle.promises.specs.Refusals.{Access, none, reading, writing, accessOf}
@@ -128,6 +128,10 @@ laneOf (arg.Register r) v p = lane (p - (8 * parentOf r + firstOf (partOf r))) (
 laneOf (arg.Immediate x) v p = 0
 laneOf (arg.EffectiveAddress b i s d) v p = 0
 
+-- a result gives Parity, Zero and Sign, places 177 to 179; Zero is as told
+abbrev pub resultFlagAt : Bool → ℕ → ArgumentSize → ℕ → ℕ
+resultFlagAt b v z p = boolBit (getD (evenOnes v ∷ b ∷ signIn z v ∷ []) (p - 177) false)
+
 -- rsp stands at places 32 to 39, and the flags at 176 to 181: Carry, Parity, Zero, Sign, Direction, which no operation rewrites, Overflow
 unfoldable pub placeValue : Call → MachineState → List ℕ → ℕ → ℕ
 placeValue (ReadOperand a z) m l p = 0
@@ -139,7 +143,8 @@ placeValue (ReadMemory a) m l p = 0
 placeValue (WriteMemory a) m l p = 0
 placeValue (TestFlag f) m l p = 0
 placeValue (SetFlag f b) m l p = boolBit b
-placeValue (ComputeFlags v z) m l p = boolBit (getD (evenOnes v ∷ eqb v 0 ∷ signIn z v ∷ []) (p - 177) false)
+placeValue (ComputeFlags v z) m l p = resultFlagAt (eqb v 0) v z p
+placeValue (ComputeSizedFlags v z) m l p = resultFlagAt (eqb (lowBits z v) 0) v z p
 placeValue (Arithmetic o z a b) m l p =
     let r = workedAt (m .rflags) o z a b in
     let v = r .value in

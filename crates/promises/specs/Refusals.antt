@@ -19,7 +19,7 @@ use Rattle.machine_state.specs.declared.MachineState.{MachineState}
 use Rattle.calls.specs.Step.{step}
 use Rattle.calls.specs.declared.Call.{Call}
 use Rattle.calls.specs.declared.Call.the-variants.{ReadOperand, WriteOperand, EffectiveAddress, Push, Pop, ReadMemory, WriteMemory}
-use Rattle.calls.specs.declared.Call.the-variants.{TestFlag, SetFlag, ComputeFlags, Arithmetic}
+use Rattle.calls.specs.declared.Call.the-variants.{TestFlag, SetFlag, ComputeFlags, ComputeSizedFlags, Arithmetic}
 use Rattle.rows.specs.Rows.{reaches}
 
 -- ---- the access that a call makes: so many bytes are read, or these are written, from an address on
@@ -43,6 +43,7 @@ accessOf (WriteMemory a) m l = writing a l
 accessOf (TestFlag f) m l = none
 accessOf (SetFlag f b) m l = none
 accessOf (ComputeFlags x z) m l = none
+accessOf (ComputeSizedFlags x z) m l = none
 accessOf (Arithmetic o z a b) m l = none
 
 -- ---- a number of the table, and whether its condition holds
@@ -65,6 +66,7 @@ operandChecks (WriteMemory a) = []
 operandChecks (TestFlag f) = []
 operandChecks (SetFlag f b) = []
 operandChecks (ComputeFlags x z) = []
+operandChecks (ComputeSizedFlags x z) = []
 operandChecks (Arithmetic o z a b) = []
 
 -- 5: "more than 4,096 bytes in one access"

@@ -52,14 +52,14 @@ up k le ne = omega (arith, le, ne)
 -- kinds 0 and 11 are no call either
 pub call-past : (h : Header) → (h .kind ≡ 1 → ⊥) → (h .kind ≡ 2 → ⊥) → (h .kind ≡ 3 → ⊥) → (h .kind ≡ 4 → ⊥) → (h .kind ≡ 5 → ⊥)
     → (h .kind ≡ 6 → ⊥) → (h .kind ≡ 7 → ⊥) → (h .kind ≡ 8 → ⊥) → (h .kind ≡ 9 → ⊥) → (h .kind ≡ 10 → ⊥) → (h .kind ≡ 12 → ⊥)
-    → decoded.Malformed ≡ callOf h
+    → (h .kind ≡ 13 → ⊥) → decoded.Malformed ≡ callOf h
 unfolding callOf
-call-past h n1 n2 n3 n4 n5 n6 n7 n8 n9 n10 n12 = go (ℕ-discrete (h .kind) 0) (ℕ-discrete (h .kind) 11)
+call-past h n1 n2 n3 n4 n5 n6 n7 n8 n9 n10 n12 n13 = go (ℕ-discrete (h .kind) 0) (ℕ-discrete (h .kind) 11)
   where
     go : Dec (h .kind ≡ 0) → Dec (h .kind ≡ 11) → decoded.Malformed ≡ getD (callKinds h) (h .kind) decoded.Malformed
     go (yes e) d = rw e
     go (no n) (yes e) = rw e
     go (no n0) (no n11) =
         let six = up 5 (up 4 (up 3 (up 2 (up 1 (up 0 (omega arith) n0) n1) n2) n3) n4) n5 in
-        let le : 13 ≤ h .kind = up 12 (up 11 (up 10 (up 9 (up 8 (up 7 (up 6 six n6) n7) n8) n9) n10) n11) n12 in
+        let le : 14 ≤ h .kind = up 13 (up 12 (up 11 (up 10 (up 9 (up 8 (up 7 (up 6 six n6) n7) n8) n9) n10) n11) n12) n13 in
         sym (List·getD-eq-default (callKinds h) decoded.Malformed le)

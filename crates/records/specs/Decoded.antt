@@ -1,7 +1,7 @@
 -- What the words of a record ask for (docs/FORMAT.md, "A record"; an event: "Texts and the report"), as functions of the words. A number
 -- that names nothing is malformed, and so is all that it is a part of: the words alone say what is malformed, and decoders that meet this
 -- agree.
-use mathlib.Core.Bool.{cond}
+use mathlib.Core.Bool.{Bool, true, false, cond}
 use mathlib.Core.List.{List, [], _∷_}
 use Prim.Native.Nat.{ℕ, zero, suc}
 use lib.Dec.{eqb, ltb}
@@ -201,8 +201,11 @@ setCall h =
     cond (ltb 1 (h .b)) decoded.Malformed
     (withFlag decoded.Malformed (flagAt (h .a)) (λ f. decoded.Is (call.SetFlag f (eqb (h .b) 1))))
 
-unfoldable pub computeCall : Header → SomeCall
-computeCall h = withSize decoded.Malformed (sizeAt (h .size)) (λ z. decoded.Is (call.ComputeFlags (h .a) z))
+-- either form of the flag call: "a result, size"
+unfoldable pub flagCall : Bool → Header → SomeCall
+flagCall sized h =
+    withSize decoded.Malformed (sizeAt (h .size)) (λ z.
+    decoded.Is (cond sized (call.ComputeSizedFlags (h .a) z) (call.ComputeFlags (h .a) z)))
 
 -- "size; a and b the values, c the operation"
 unfoldable pub operationCall : Header → SomeCall
@@ -210,12 +213,12 @@ operationCall h =
     withOperation decoded.Malformed (operationAt (h .c)) (λ o.
     withSize decoded.Malformed (sizeAt (h .size)) (λ z. decoded.Is (call.Arithmetic o z (h .a) (h .b))))
 
--- kinds 1 to 10, and 12; 0, 11, and all past 12, are no call
+-- kinds 1 to 10, 12 and 13; 0, 11, and all past 13, are no call
 abbrev pub callKinds : Header → List SomeCall
 callKinds h =
     decoded.Malformed ∷ readCall h ∷ writeCall h ∷ addressCall h ∷ decoded.Is call.Push ∷ decoded.Is call.Pop ∷
-    decoded.Is (call.ReadMemory (h .a)) ∷ decoded.Is (call.WriteMemory (h .a)) ∷ testCall h ∷ setCall h ∷ computeCall h ∷
-    decoded.Malformed ∷ operationCall h ∷ []
+    decoded.Is (call.ReadMemory (h .a)) ∷ decoded.Is (call.WriteMemory (h .a)) ∷ testCall h ∷ setCall h ∷ flagCall false h ∷
+    decoded.Malformed ∷ operationCall h ∷ flagCall true h ∷ []
 
 unfoldable pub callOf : Header → SomeCall
 callOf h = getD (callKinds h) (h .kind) decoded.Malformed

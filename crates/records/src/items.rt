@@ -21,7 +21,7 @@ ghost use mathlib.Core.Path.{_≡_};
 ghost use Rattle.records.specs.Built.{argumentsOf, firstGiven, secondGiven, opcodeGiven, sizeGiven};
 ghost use Rattle.records.specs.Decoded.{partAt, factorAt, farAt, explicitAt, codeAt, registerOperand, addressOperand, operandAt};
 ghost use Rattle.records.specs.Decoded.{givenAt, argumentsAt};
-ghost use Rattle.records.specs.Decoded.{readCall, writeCall, addressCall, testCall, setCall, computeCall};
+ghost use Rattle.records.specs.Decoded.{readCall, writeCall, addressCall, testCall, setCall, flagCall};
 ghost use Rattle.records.specs.Decoded.{operationCall, callOf, controlEvent, videoEvent, eventAt};
 
 // A base or an index of a record, or a word that names none.
@@ -363,17 +363,19 @@ fn set_flag(header: Header) -> SomeCall
     }
 }
 
-fn compute_flags(header: Header) -> SomeCall
-    ensures { λ r. ⌜ r ≡ computeCall header ⌝ }
+// Either form of the flag call.
+fn compute_flags(header: Header, sized: bool) -> SomeCall
+    ensures { λ r. ⌜ r ≡ flagCall sized header ⌝ }
 {
     let found = size_at(header.size);
-    match found {
-        SomeSize::Absent => SomeCall::Malformed,
-        SomeSize::Present(size) => SomeCall::Is(Call::ComputeFlags {
-            result: header.a,
-            size,
-        }),
+    let SomeSize::Present(size) = found else {
+        return SomeCall::Malformed;
+    };
+    let result = header.a;
+    if sized {
+        return SomeCall::Is(Call::ComputeSizedFlags { result, size });
     }
+    SomeCall::Is(Call::ComputeFlags { result, size })
 }
 
 fn operate(header: Header) -> SomeCall
@@ -410,8 +412,9 @@ pub fn decode_call(header: Header) -> SomeCall
         7 => SomeCall::Is(Call::WriteMemory { address: header.a }),
         8 => test_flag(header),
         9 => set_flag(header),
-        10 => compute_flags(header),
+        10 => compute_flags(header, false),
         12 => operate(header),
+        13 => compute_flags(header, true),
         _ => SomeCall::Malformed,
     }
 }

@@ -15,9 +15,9 @@ use Rattle.arithmetic.specs.declared.Operation.{Operation}
 use Rattle.arithmetic.specs.declared.Operation.the-variants.{Add, AddWithCarry, Subtract, SubtractWithBorrow, Compare}
 use Rattle.calls.specs.declared.Call.{Call}
 use Rattle.calls.specs.declared.Call.the-variants.{ReadOperand, WriteOperand, EffectiveAddress, Push, Pop, ReadMemory, WriteMemory}
-use Rattle.calls.specs.declared.Call.the-variants.{TestFlag, SetFlag, ComputeFlags, Arithmetic}
+use Rattle.calls.specs.declared.Call.the-variants.{TestFlag, SetFlag, ComputeFlags, ComputeSizedFlags, Arithmetic}
 use Rattle.rows.specs.Rows.{spans, none, rsp, cr3, nothing, readSpan, rewriteSpan, partSpan, flagSpan, readsOf, rewritesOf, inSpans}
-use Rattle.rows.specs.Rows.{operationReads, Inside}
+use Rattle.rows.specs.Rows.{operationReads, threeFlags, Inside}
 use Rattle.rows.specs.declared.Span.{Span}
 use Rattle.rows.specs.declared.Spans.{Spans}
 use Rattle.rows.proofs.Within.{in-out, flag-below}
@@ -41,6 +41,9 @@ no-inside = record { one = omega arith; two = omega arith; three = omega arith; 
 
 one-inside : (s : Span) → Ends s → Inside (spans s none none none)
 one-inside s h = record { one = h; two = omega arith; three = omega arith; four = omega arith }
+
+three-inside : Inside threeFlags
+three-inside = record { one = omega arith; two = omega arith; three = omega arith; four = omega arith }
 
 operation-inside : (o : Operation) → Inside (operationReads o)
 operation-inside Add = no-inside
@@ -70,6 +73,7 @@ reads-inside (WriteMemory a) = one-inside cr3 (omega arith)
 reads-inside (TestFlag f) = one-inside (flagSpan f) (omega (arith, flag-below f))
 reads-inside (SetFlag f b) = no-inside
 reads-inside (ComputeFlags x z) = no-inside
+reads-inside (ComputeSizedFlags x z) = no-inside
 reads-inside (Arithmetic o z a b) = operation-inside o
 
 pub rewrites-inside : (c : Call) → Inside (rewritesOf c)
@@ -85,7 +89,8 @@ rewrites-inside (ReadMemory a) = no-inside
 rewrites-inside (WriteMemory a) = no-inside
 rewrites-inside (TestFlag f) = no-inside
 rewrites-inside (SetFlag f b) = one-inside (flagSpan f) (omega (arith, flag-below f))
-rewrites-inside (ComputeFlags x z) = record { one = omega arith; two = omega arith; three = omega arith; four = omega arith }
+rewrites-inside (ComputeFlags x z) = three-inside
+rewrites-inside (ComputeSizedFlags x z) = three-inside
 rewrites-inside (Arithmetic o z a b) = record { one = omega arith; two = omega arith; three = omega arith; four = omega arith }
 
 -- so that no other place is in a row

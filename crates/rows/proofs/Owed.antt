@@ -7,6 +7,7 @@ use mathlib.Core.Path.{_≡_, refl, ap, _∙_}
 use Prim.Native.Nat.{ℕ, _+_, _*_, _%_, _^_, _<_}
 use native.Mathlib.Nat.{mod-lt}
 use native.Mathlib.Omega.{arith}
+use lib.Dec.{eqb}
 use lib.IntN.{ℤ}
 use lib.ListN.{length}
 use lib.Pow.{pow-pos}
@@ -20,6 +21,7 @@ use Rattle.instruction_set.specs.declared.InstructionArgument.{InstructionArgum
 use Rattle.instruction_set.specs.declared.InstructionArgument.the-variants as arg
 use Rattle.instruction_set.specs.declared.SomeRegister.{SomeRegister}
 use Rattle.instruction_set.specs.declared.SomeScale.{SomeScale}
+use Rattle.fields.specs.Parts.{lowBits}
 use Rattle.arithmetic.specs.Sums.{carryTaken, workedOf, computedOf}
 use Rattle.arithmetic.specs.declared.Operation.{Operation}
 use Rattle.arithmetic.specs.declared.Operation.the-variants.{Add, AddWithCarry, Subtract, SubtractWithBorrow, Compare}
@@ -27,24 +29,24 @@ use Rattle.arithmetic.specs.declared.Sum.{Sum}
 use Rattle.store.specs.Store.{Store}
 use Rattle.machine_state.specs.Address.{addressOf}
 use Rattle.machine_state.specs.Answers.{Value, word, truth, outcomeOf}
-use Rattle.machine_state.specs.Flagged.{flagIn, setFlag, computeFlags}
+use Rattle.machine_state.specs.Flagged.{flagIn, setFlag}
 use Rattle.machine_state.specs.Machine.{readReg, writeReg, eventOf}
 use Rattle.machine_state.specs.Memory.{rsp as rspOf, cr3 as cr3Of, passed, readMemory, writeMemory, loaded, storedAt, readOperand}
-use Rattle.machine_state.specs.Memory.{writeOperand, below, pushed, popped}
+use Rattle.machine_state.specs.Memory.{after, writeOperand, below, pushed, popped}
 use Rattle.machine_state.specs.Operating.{answerOf, operated}
 use Rattle.machine_state.specs.declared.Event.the-variants.{Quiet}
 use Rattle.machine_state.specs.declared.MachineState.{MachineState}
 use Rattle.calls.specs.Step.{step}
 use Rattle.calls.specs.declared.Call.{Call}
 use Rattle.calls.specs.declared.Call.the-variants.{ReadOperand, WriteOperand, EffectiveAddress, Push, Pop, ReadMemory, WriteMemory}
-use Rattle.calls.specs.declared.Call.the-variants.{TestFlag, SetFlag, ComputeFlags, Arithmetic}
+use Rattle.calls.specs.declared.Call.the-variants.{TestFlag, SetFlag, ComputeFlags, ComputeSizedFlags, Arithmetic}
 use Rattle.rows.specs.Places.{Sound, does, reads, rewrites, reachesMemory, placeIn, storeIn, SoundState}
 use Rattle.rows.specs.Rows.{rsp, cr3, partSpan, flagSpan, rewriteSpan, operationReads, threeFlags, readsOf, rewritesOf, reaches}
 use Rattle.rows.specs.Rows.{inSpan, inSpans}
 use Rattle.rows.specs.declared.Spans.{Spans}
 use Rattle.rows.proofs.Forgotten.{Owed}
 use Rattle.rows.proofs.Places.{Agrees, register-same, parent-same, sum-same, flag-same, AgreeWhere, same-where, register-renews}
-use Rattle.rows.proofs.Places.{by-reading, flag-renews, computed-renews, flagged, flagged-renews}
+use Rattle.rows.proofs.Places.{by-reading, flag-renews, resulted, result-renews, flagged, flagged-renews}
 use Rattle.rows.proofs.Shapes.{rewritten, Agree, Owes, one-span, by-itself, answers-only, changes-only, Same, by-memory, read-alike}
 use Rattle.rows.proofs.Shapes.{write-alike, load-alike, store-alike, at-alike, load-still, store-still, at-still, lent-back}
 use Rattle.rows.proofs.Shapes.{StackAccess, StackAlike, stack}
@@ -129,6 +131,14 @@ three-flags p =
     three-only (flagSpan Parity) (flagSpan Zero) (flagSpan Sign) p
     ∙ three (inSpan (flagSpan Parity) p) (inSpan (flagSpan Zero) p) (inSpan (flagSpan Sign) p)
 
+-- a call that sets the flags of a result, whatever says Zero
+result-owes : (c : Call) (b : Bool) (x : ℕ) (z : ArgumentSize)
+    → ((m : MachineState) (s : Store) (l : List ℕ) → step c m s l ≡ after (resulted b x z m) s l Quiet (gives []))
+    → rewritesOf c ≡ threeFlags → Owes c
+result-owes c b x z leaves row =
+    changes-only c Quiet (resulted b x z) leaves
+    (same-where _ (resulted b x z) _ (rewritten c) (λ p. ap (λ (r : Spans). inSpans r p) row ∙ three-flags p) (result-renews _ b x z))
+
 -- ---- operands, by their kind
 read-owes : (a : InstructionArgument) (z : ArgumentSize) → Owes (ReadOperand a z)
 unfolding step readOperand addressOf readsOf rewritesOf reaches
@@ -212,9 +222,8 @@ owes (TestFlag f) =
 owes (SetFlag f b) =
     changes-only (SetFlag f b) Quiet (λ m. setFlag m f b) (λ m s l. refl)
     (one-span (SetFlag f b) (λ m. setFlag m f b) (flagSpan f) refl (flag-renews f b _))
-owes (ComputeFlags x z) =
-    changes-only (ComputeFlags x z) Quiet (λ m. computeFlags m x z) (λ m s l. refl)
-    (same-where _ (λ m. computeFlags m x z) _ (rewritten (ComputeFlags x z)) three-flags (computed-renews _ x z))
+owes (ComputeFlags x z) = result-owes (ComputeFlags x z) (eqb x 0) x z (λ m s l. refl) refl
+owes (ComputeSizedFlags x z) = result-owes (ComputeSizedFlags x z) (eqb (lowBits z x) 0) x z (λ m s l. refl) refl
 owes (Arithmetic o z a b) = operation-owes o z a b
 
 -- what the theorem asks of the calls

@@ -31,14 +31,14 @@ use Rattle.instruction_set.specs.declared.SomeRegister.the-variants as reg
 use Rattle.instruction_set.specs.declared.SomeScale.{SomeScale}
 use Rattle.instruction_set.specs.declared.SomeScale.the-variants as by
 use Rattle.instruction_set.proofs.Bounds.{parent-below, reads-within, rewrites-within}
-use Rattle.fields.specs.FlagBits.{boolBit, bitSet, putFlag, signIn, evenOnes}
+use Rattle.fields.specs.FlagBits.{boolBit, bitSet, putFlag, signIn, evenOnes, resultFlags}
 use Rattle.fields.specs.Parts.{writeOf}
 use Rattle.fields.proofs.FlagLaws.{bits-kept, flag-word}
 use Rattle.fields.proofs.PartLaws.{write-part-word}
 use Rattle.arithmetic.specs.Sums.{flagsOf}
 use Rattle.arithmetic.specs.declared.Sum.{Sum}
 use Rattle.machine_state.specs.Address.{baseOf, sumOf}
-use Rattle.machine_state.specs.Flagged.{flagIn, setFlag, computeFlags}
+use Rattle.machine_state.specs.Flagged.{flagIn, setFlag}
 use Rattle.machine_state.specs.Machine.{parentAt, withRegs, withFlags, readReg, writeReg}
 use Rattle.machine_state.specs.Memory.{withRsp}
 use Rattle.machine_state.specs.declared.MachineState.{MachineState}
@@ -322,10 +322,13 @@ pub then-flag : {by : ℕ → Bool} {f : MachineState → MachineState} {w : ℕ
     → Renews by (λ m. setFlag (f m) g b) (λ p. w p || inSpan (flagSpan g) p)
 then-flag {by} {f} {w} g b a = and-then by f (λ m. setFlag m g b) w (inSpan (flagSpan g)) a (flag-renews g b by)
 
--- `compute_flags` sets three
-pub computed-renews : (by : ℕ → Bool) (x : ℕ) (z : ArgumentSize)
-    → Renews by (λ m. computeFlags m x z) (λ p. (inSpan (flagSpan Zero) p || inSpan (flagSpan Sign) p) || inSpan (flagSpan Parity) p)
-computed-renews by x z = then-flag Parity (evenOnes x) (then-flag Sign (signIn z x) (flag-renews Zero (eqb x 0) by))
+-- the flags of a result are three, whatever says Zero
+abbrev pub resulted : Bool → ℕ → ArgumentSize → MachineState → MachineState
+resulted b x z m = withFlags m (resultFlags (m .rflags) b x z)
+
+pub result-renews : (by : ℕ → Bool) (b : Bool) (x : ℕ) (z : ArgumentSize)
+    → Renews by (resulted b x z) (λ p. (inSpan (flagSpan Zero) p || inSpan (flagSpan Sign) p) || inSpan (flagSpan Parity) p)
+result-renews by b x z = then-flag Parity (evenOnes x) (then-flag Sign (signIn z x) (flag-renews Zero b by))
 
 -- an operation sets five, by its sum or difference
 abbrev pub flagged : ArgumentSize → Sum → MachineState → MachineState

@@ -16,7 +16,7 @@ use Rattle.arithmetic.specs.declared.Operation.{Operation}
 use Rattle.arithmetic.specs.declared.Operation.the-variants.{Add, AddWithCarry, Subtract, SubtractWithBorrow, Compare}
 use Rattle.calls.specs.declared.Call.{Call}
 use Rattle.calls.specs.declared.Call.the-variants.{ReadOperand, WriteOperand, EffectiveAddress, Push, Pop, ReadMemory, WriteMemory}
-use Rattle.calls.specs.declared.Call.the-variants.{TestFlag, SetFlag, ComputeFlags, Arithmetic}
+use Rattle.calls.specs.declared.Call.the-variants.{TestFlag, SetFlag, ComputeFlags, ComputeSizedFlags, Arithmetic}
 use Rattle.rows.specs.declared.Span.{Span}
 use Rattle.rows.specs.declared.Spans.{Spans}
 
@@ -92,7 +92,7 @@ operationReads Subtract = nothing
 operationReads SubtractWithBorrow = spans (flagSpan Carry) none none none
 operationReads Compare = nothing
 
--- "`compute_flags` rewrites Parity, Zero, Sign"
+-- "`compute_flags` rewrites Parity, Zero, Sign"; so does the sized form (02, No. 4)
 abbrev pub threeFlags : Spans
 threeFlags = spans (flagSpan Parity) (flagSpan Zero) (flagSpan Sign) none
 
@@ -113,6 +113,7 @@ readsOf (WriteMemory a) = spans cr3 none none none
 readsOf (TestFlag f) = spans (flagSpan f) none none none
 readsOf (SetFlag f b) = nothing
 readsOf (ComputeFlags x z) = nothing
+readsOf (ComputeSizedFlags x z) = nothing
 readsOf (Arithmetic o z a b) = operationReads o
 
 unfoldable pub rewritesOf : Call → Spans
@@ -126,9 +127,10 @@ rewritesOf (WriteMemory a) = nothing
 rewritesOf (TestFlag f) = nothing
 rewritesOf (SetFlag f b) = spans (flagSpan f) none none none
 rewritesOf (ComputeFlags x z) = threeFlags
+rewritesOf (ComputeSizedFlags x z) = threeFlags
 rewritesOf (Arithmetic o z a b) = fiveFlags
 
--- "All calls but those on registers, immediates, addresses and flags reach memory"
+-- "All calls but those on registers, immediates, addresses and flags reach memory"; 02, No. 7: "those of No. 2 and No. 4 don't reach memory"
 abbrev pub operandReaches : InstructionArgument → Bool
 operandReaches (arg.Register r) = false
 operandReaches (arg.Immediate v) = false
@@ -145,6 +147,7 @@ reaches (WriteMemory a) = true
 reaches (TestFlag f) = false
 reaches (SetFlag f b) = false
 reaches (ComputeFlags x z) = false
+reaches (ComputeSizedFlags x z) = false
 reaches (Arithmetic o z a b) = false
 
 -- place p stands in the span, or in one of the four

@@ -2,7 +2,7 @@
 // the spans of places that it reads, and of those that it rewrites. Below is calls, which says what each call does; this crate proves the rows of
 // that, and from them the theorem on forgotten readers for every list of calls. Above are exposed, which reports the places that a list takes for
 // granted, and promises, which states demand 3.
-// Document 01: "Places and calls"; document 02: No. 2.
+// Document 01: "Places and calls"; document 02: No. 2, No. 4.
 use arithmetic::Operation;
 use calls::Call;
 use instruction_set::Flags;
@@ -13,7 +13,7 @@ use instruction_set::SomeRegister;
 ghost use mathlib.Core.Path.{_≡_};
 ghost use Rattle.instruction_set.specs.Registers.{firstOf, readsOf as lanesRead, rewritesOf as lanesRewritten};
 ghost use Rattle.rows.specs.Rows.{flagPlace, spans, none, readSpan, rewriteSpan, partSpan, flagSpan, operandReads, addressReads};
-ghost use Rattle.rows.specs.Rows.{operandRewrites, operationReads, fiveFlags, readsOf, rewritesOf};
+ghost use Rattle.rows.specs.Rows.{operandRewrites, operationReads, threeFlags, fiveFlags, readsOf, rewritesOf};
 
 // count places from start on
 pub struct Span {
@@ -215,6 +215,18 @@ fn operation_reads(operation: Operation) -> Spans
     }
 }
 
+// What either form of the flag call rewrites.
+fn three_flags() -> Spans
+    ensures { λ r. ⌜ r ≡ threeFlags ⌝ }
+{
+    Spans {
+        one: flag_span(Flags::Parity),
+        two: flag_span(Flags::Zero),
+        three: flag_span(Flags::Sign),
+        four: Span { start: 0, count: 0 },
+    }
+}
+
 // Carry, Parity, Zero and Sign stand side by side; Direction stands before Overflow.
 fn five_flags() -> Spans
     ensures { λ r. ⌜ r ≡ fiveFlags ⌝ }
@@ -253,6 +265,7 @@ pub fn reads_of(call: Call) -> Spans
         Call::TestFlag { flag } => one_span(flag_span(flag)),
         Call::SetFlag { flag: _, value: _ } => no_spans(),
         Call::ComputeFlags { result: _, size: _ } => no_spans(),
+        Call::ComputeSizedFlags { result: _, size: _ } => no_spans(),
         Call::Arithmetic {
             operation,
             size: _,
@@ -287,12 +300,8 @@ pub fn rewrites_of(call: Call) -> Spans
         Call::WriteMemory { address: _ } => no_spans(),
         Call::TestFlag { flag: _ } => no_spans(),
         Call::SetFlag { flag, value: _ } => one_span(flag_span(flag)),
-        Call::ComputeFlags { result: _, size: _ } => Spans {
-            one: flag_span(Flags::Parity),
-            two: flag_span(Flags::Zero),
-            three: flag_span(Flags::Sign),
-            four: Span { start: 0, count: 0 },
-        },
+        Call::ComputeFlags { result: _, size: _ } => three_flags(),
+        Call::ComputeSizedFlags { result: _, size: _ } => three_flags(),
         Call::Arithmetic {
             operation: _,
             size: _,

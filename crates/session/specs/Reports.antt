@@ -34,7 +34,7 @@ listed l zero = calls (replicate 64 push)
 listed l (suc n) =
     withCalls nothing (listed l n) (λ cs. withCall nothing (callOf (headerIn l n)) (λ c. calls (set cs n (record { call = c }))))
 
--- "whole headers of kinds 1 to 10 and 12, at most 64"; and the lent bytes have room for the answer
+-- "whole headers of kinds 1 to 10, 12 and 13, at most 64"; and the lent bytes have room for the answer
 abbrev pub whole : Header → List ℕ → Bool
 whole h l = leb (h .length / 128) 64 && eqb (h .length % 128) 0 && leb 182 (length l)
 

@@ -1,4 +1,5 @@
--- Sign extension: it looks at the low n bits alone and keeps them, none read 0, and 64 bits are the word itself. Assumes nothing.
+-- Sign extension: it looks at the low n bits alone and keeps them; no bits, and bits of 0, read 0; 64 bits are the word itself.
+-- Assumes nothing.
 use mathlib.Core.Bool.{Bool, true, false, cond}
 use mathlib.Core.Path.{_≡_, refl, sym, ap, _∙_}
 use Prim.Native.Nat.{ℕ, _+_, _-_, _*_, _/_, _%_, _^_, _<_, _≤_}
@@ -13,6 +14,12 @@ use Rattle.utils.proofs.Powers.{twice}
 pub extend-none : (x : ℕ) → extend 0 x ≡ 0
 unfolding extend
 extend-none x = ap (λ (l : ℕ). cond (ltb l 1) l (l + (2 ^ 64 - 1))) (mod-one x)
+
+pub extend-zero : (n : ℕ) → extend n 0 ≡ 0
+unfolding extend
+extend-zero n =
+    let z : 0 % 2 ^ n ≡ 0 = mod-eq-of-lt (pow-pos n) in
+    rw (z, lt-ltb 0 (2 ^ (n - 1)) (pow-pos (n - 1)))
 
 either : (b : Bool) {x y : ℕ} → y ≡ x → cond b x y ≡ x
 either true e = refl

@@ -108,3 +108,30 @@ put-exchange x f n v =
     let c : f + n ≡ n + f = omega arith in
     ap (λ (y : ℕ). x / 2 ^ (f + n) * 2 ^ (f + n) + y) (rw c (sym (mod-pow-add x n f))) ∙ split x (f + n) in
     omega (arith, s)
+
+-- so: a field put in as it stands changes nothing, of two put into one place the last counts, and two that lie apart may change places
+pub put-same : (x f n : ℕ) → put x f n (cut x f n) ≡ x
+put-same x f n =
+    let c : cut x f n % 2 ^ n ≡ cut x f n = mod-eq-of-lt (cut-lt x f n) in
+    let e : put x f n (cut x f n) + cut x f n * 2 ^ f ≡ x + cut x f n * 2 ^ f = rw c at (put-exchange x f n (cut x f n)) in
+    omega (arith, e)
+
+pub put-again : (x f n u v : ℕ) → put (put x f n u) f n v ≡ put x f n v
+put-again x f n u v =
+    let i : f + 0 ≡ f = omega arith in
+    let c : cut (put x f n u) f n ≡ u % 2 ^ n =
+    ap (λ (k : ℕ). cut (put x f n u) k n) (sym i) ∙ put-inside x f n u 0 n (omega arith) ∙ cut-bottom u n in
+    let e : put (put x f n u) f n v + u % 2 ^ n * 2 ^ f ≡ put x f n u + v % 2 ^ n * 2 ^ f = rw c at (put-exchange (put x f n u) f n v) in
+    omega (arith, e, put-exchange x f n u, put-exchange x f n v)
+
+pub put-swap : (x f n u g m v : ℕ) → (g + m ≤ f) ⊎ (f + n ≤ g) → put (put x f n u) g m v ≡ put (put x g m v) f n u
+put-swap x f n u g m v h =
+    let c = put-outside x f n u g m h in
+    let d = put-outside x g m v f n (turned h) in
+    let e : put (put x f n u) g m v + cut x g m * 2 ^ g ≡ put x f n u + v % 2 ^ m * 2 ^ g = rw c at (put-exchange (put x f n u) g m v) in
+    let i : put (put x g m v) f n u + cut x f n * 2 ^ f ≡ put x g m v + u % 2 ^ n * 2 ^ f = rw d at (put-exchange (put x g m v) f n u) in
+    omega (arith, e, i, put-exchange x f n u, put-exchange x g m v)
+  where
+    turned : (g + m ≤ f) ⊎ (f + n ≤ g) → (f + n ≤ g) ⊎ (g + m ≤ f)
+    turned (inl l) = inr l
+    turned (inr l) = inl l

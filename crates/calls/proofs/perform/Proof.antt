@@ -81,8 +81,14 @@ returns-10 c =
 returns-11 : tie.Need-returns-11
 unfolding step
 returns-11 c =
-    let call9 = c .before .before in
-    rw (call9 .call9 .given .1, c .operate .ensures)
+    let call9 = c .before .before .before in
+    rw (call9 .call9 .given .1, c .keep5 .ensures, c .before .compute-sized-flags .ensures)
+
+returns-12 : tie.Need-returns-12
+unfolding step
+returns-12 c =
+    let call10 = c .before .before in
+    rw (call10 .call10 .given .1, c .operate .ensures)
 
 pub perform-spec : {M : Type 1} → statement M
 perform-spec =
@@ -92,8 +98,9 @@ perform-spec =
     (λ c κs. search needs) (λ c. search needs) (λ c κs. search needs) (λ c. search needs) (λ c κs. search needs)
     (λ c. search needs) (λ c κs. search needs) (λ c. search needs) (λ c κs. search needs) (λ c κs. search needs)
     (λ c. search needs) (λ c κs. search needs) (λ c κs. search needs) (λ c. search needs) (λ c κs. search needs)
-    (λ c κs. search needs) (λ c. search needs) (λ c κs. search needs) (λ c. search needs) (λ c. search needs) returns
+    (λ c κs. search needs) (λ c. search needs) (λ c κs. search needs) (λ c κs. search needs) (λ c. search needs)
+    (λ c κs. search needs) (λ c. search needs) (λ c. search needs) returns
     (λ c. search needs) (λ c. search needs) returns-2 returns-3 (λ c. search needs) (λ c. search needs)
     (λ c. search needs) returns-4 (λ c. search needs) (λ c. search needs) returns-5 (λ c. search needs)
     (λ c. search needs) (λ c. search needs) returns-6 (λ c. search needs) (λ c. search needs) (λ c. search needs)
-    returns-7 returns-8 returns-9 returns-10 returns-11)
+    returns-7 returns-8 returns-9 returns-10 returns-11 returns-12)

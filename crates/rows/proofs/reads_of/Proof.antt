@@ -54,7 +54,11 @@ returns-10 c = rw (c .no-spans2 .ensures, c .before .enum-told6 .given .1)
 
 returns-11 : tie.Need-returns-11
 unfolding readsOf
-returns-11 c =
+returns-11 c = rw (c .no-spans3 .ensures, c .before .enum-told7 .given .1)
+
+returns-12 : tie.Need-returns-12
+unfolding readsOf
+returns-12 c =
     let call5 = c .before .before in
     rw (c .operation-reads .ensures, call5 .call5 .given .1)
 
@@ -65,5 +69,5 @@ reads-of-spec =
     (λ c κs. search needs) (λ c. search needs) (λ c κs. search needs) (λ c. search needs) (λ c κs. search needs)
     (λ c. search needs) (λ c κs. search needs) (λ c. search needs) (λ c κs. search needs) (λ c. search needs)
     (λ c κs. search needs) (λ c κs. search needs) (λ c. search needs) (λ c κs. search needs) (λ c. search needs)
-    (λ c κs. search needs) (λ c. search needs) (λ c κs. search needs) returns returns-2 returns-3 returns-4 returns-5 returns-6
-    returns-7 returns-8 returns-9 returns-10 returns-11)
+    (λ c κs. search needs) (λ c. search needs) (λ c κs. search needs) (λ c. search needs) (λ c κs. search needs) returns
+    returns-2 returns-3 returns-4 returns-5 returns-6 returns-7 returns-8 returns-9 returns-10 returns-11 returns-12)

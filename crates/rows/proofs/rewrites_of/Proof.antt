@@ -46,13 +46,15 @@ returns-9 c =
 
 returns-10 : tie.Need-returns-10
 unfolding rewritesOf
-returns-10 c =
-    let told = c .before .before .before in
-    rw (c .flag-span4 .ensures, c .before .flag-span3 .ensures, c .before .before .flag-span2 .ensures, told .enum-told8 .given .1)
+returns-10 c = rw (c .three-flags .ensures, c .before .enum-told8 .given .1)
 
 returns-11 : tie.Need-returns-11
 unfolding rewritesOf
-returns-11 c = rw (c .five-flags .ensures, c .before .enum-told9 .given .1)
+returns-11 c = rw (c .three-flags2 .ensures, c .before .enum-told9 .given .1)
+
+returns-12 : tie.Need-returns-12
+unfolding rewritesOf
+returns-12 c = rw (c .five-flags .ensures, c .before .enum-told10 .given .1)
 
 pub rewrites-of-spec : {M : Type 1} → statement M
 rewrites-of-spec =
@@ -61,6 +63,6 @@ rewrites-of-spec =
     (λ c. search needs) (λ c κs. search needs) (λ c. search needs) (λ c κs. search needs) (λ c. search needs)
     (λ c κs. search needs) (λ c. search needs) (λ c κs. search needs) (λ c. search needs) (λ c κs. search needs)
     (λ c. search needs) (λ c κs. search needs) (λ c. search needs) (λ c κs. search needs) (λ c κs. search needs)
-    (λ c. search needs) (λ c κs. search needs) (λ c κs. search needs) (λ c κs. search needs) (λ c. search needs)
+    (λ c. search needs) (λ c κs. search needs) (λ c. search needs) (λ c κs. search needs) (λ c. search needs)
     (λ c κs. search needs) returns returns-2 returns-3 returns-4 returns-5 returns-6 returns-7 returns-8 returns-9
-    returns-10 returns-11)
+    returns-10 returns-11 returns-12)

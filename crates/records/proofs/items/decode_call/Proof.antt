@@ -39,17 +39,20 @@ returns-11 : tie.Need-returns-11
 returns-11 c = c .operate .ensures ∙ call-by (c .before .before .args .header) 12 (c .before .match .keys11)
 
 returns-12 : tie.Need-returns-12
-returns-12 c =
+returns-12 c = c .compute-flags2 .ensures ∙ call-by (c .before .before .args .header) 13 (c .before .match .keys12)
+
+returns-13 : tie.Need-returns-13
+returns-13 c =
     let no = c .match .rest in
-    let no8 = no .0 .0 .0 in
-    let no5 = no8 .0 .0 .0 in
-    let no2 = no5 .0 .0 .0 in
-    call-past (c .before .args .header) (no2 .0 .1) (no2 .1) (no5 .0 .0 .1) (no5 .0 .1) (no5 .1) (no8 .0 .0 .1) (no8 .0 .1) (no8 .1)
-    (no .0 .0 .1) (no .0 .1) (no .1)
+    let no9 = no .0 .0 .0 in
+    let no6 = no9 .0 .0 .0 in
+    let no3 = no6 .0 .0 .0 in
+    call-past (c .before .args .header) (no3 .0 .0 .1) (no3 .0 .1) (no3 .1) (no6 .0 .0 .1) (no6 .0 .1) (no6 .1) (no9 .0 .0 .1) (no9 .0 .1)
+    (no9 .1) (no .0 .0 .1) (no .0 .1) (no .1)
 
 pub decode-call-spec : {M : Type 1} → statement M
 decode-call-spec =
     tie.close
     (tie.spec (λ c κs. search needs) (λ c κs. search needs) (λ c κs. search needs) (λ c κs. search needs)
-    (λ c κs. search needs) (λ c κs. search needs) (λ c κs. search needs) returns returns-2 returns-3 returns-4 returns-5 returns-6 returns-7
-    returns-8 returns-9 returns-10 returns-11 returns-12)
+    (λ c κs. search needs) (λ c κs. search needs) (λ c κs. search needs) (λ c κs. search needs) returns returns-2 returns-3 returns-4
+    returns-5 returns-6 returns-7 returns-8 returns-9 returns-10 returns-11 returns-12 returns-13)

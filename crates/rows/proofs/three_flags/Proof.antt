@@ -1,0 +1,10 @@
+-- `rows::three_flags` gives `threeFlags`: each span is a flag's. Assumes nothing.
+use borrow.Author.Needs.{needs}
+use Rattle.rows.proofs.three_flags.Statement.{statement}
+use Rattle.rows.proofs.three_flags.Tie as tie
+
+returns : tie.Need-returns
+returns c = rw (c .flag-span3 .ensures, c .before .flag-span2 .ensures, c .before .before .flag-span .ensures)
+
+pub three-flags-spec : {M : Type 1} → statement M
+three-flags-spec = tie.close (tie.spec (λ c κs. search needs) (λ c κs. search needs) (λ c κs. search needs) returns)
