@@ -37,7 +37,7 @@ Alike z v = (m : MachineState) (s : Store) (l : List ℕ) → step (ComputeSized
 abbrev pub FormsAgree : Type 0
 FormsAgree = (z : ArgumentSize) (v : ℕ) → Extended z v → Alike z v
 
--- every word is one of 64 bits
+-- so at Bit64 on every word
 abbrev pub OneAtBit64 : Type 0
 OneAtBit64 = (v : ℕ) → v < 2 ^ 64 → Alike Bit64 v
 
