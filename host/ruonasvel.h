@@ -39,4 +39,23 @@ struct ruonasvel_arithmetic_answer ruonasvel_arithmetic(struct ruonasvel_machine
    is lent for the call: nothing else may use it meanwhile. */
 bool ruonasvel_compute_sized_flags(struct ruonasvel_machine *machine, uint64_t result, uint64_t size);
 
+/* What a write answers: `refusal` is 0 where it is accepted, or 4, 5 or 6; with 6 `lacking` says how many slots lack, else it is 0; `used` is how many
+   slots are in use afterwards; `shows` is 1 where the screen shows `byte`, else both are 0. */
+struct ruonasvel_write_answer {
+    uint64_t refusal;
+    uint64_t lacking;
+    uint64_t used;
+    uint64_t shows;
+    uint64_t byte;
+};
+
+/* Writes `count` bytes of `data` to an address; where CR3 is not 0, to where the walk leads. No word of the machine changes. The store is lent: `dir` has
+   a page number to each of its `slots`, `bytes` their pages, `length` bytes in all, and `used` slots are in use: lend the `used` of the last answer, 0
+   at first. A page is 4,096 bytes; a page that no slot in use has takes the next slot, which is cleared. Refused, it leaves every byte and number, and
+   `used`, as they were: 4, `length` is not 4,096 times `slots`, or `used` is more than `slots`, or `slots` more than 65,536; 5, more than 4,096 bytes;
+   6, `lacking` slots are too few: the same call is accepted on the same store with just so many more slots behind those it has, whatever these hold
+   (to 65,536 in all). No pointer may be NULL, also where its length is 0, and the four things that are lent may not overlap. */
+struct ruonasvel_write_answer ruonasvel_mem_write(const struct ruonasvel_machine *machine, uint64_t address, const uint8_t *data, uint64_t count,
+                                                  uint64_t *dir, uint64_t slots, uint8_t *bytes, uint64_t length, uint64_t used);
+
 #endif

@@ -1,5 +1,5 @@
-"""What refusals.py, texts.py, report.py and carries.py share: records, operands, the registers of 01's table, and a small model of the machine and its
-store. It is written from 01 and 02 and shares nothing with the Rattle code or with the Rust; arithmetic.py has the rules of 02, No. 2."""
+"""What refusals.py, texts.py, report.py, carries.py and lacking.py share: records, operands, the registers of 01's table, and a small model of the machine
+and its store. It is written from 01 and 02 and shares nothing with the Rattle code or with the Rust; arithmetic.py has the rules of 02, No. 2."""
 import struct
 
 import arithmetic
@@ -52,7 +52,7 @@ class Refused(Exception):
 
 
 class Model:
-    """The machine's 25 words (CR3 stays 0: no walk here), and the lent store: directory, bytes, slots in use."""
+    """The machine's 25 words, and the lent store: directory, bytes, slots in use."""
 
     def __init__(self, words, directory, length, used, fill):
         self.words, self.directory, self.used = list(words), list(directory), used
@@ -73,18 +73,33 @@ class Model:
         i = self.slot(p // 4096)
         return 0 if i is None else self.bytes[4096 * i + p % 4096]
 
-    def read(self, p, n):
+    def word(self, p):
+        return int.from_bytes(bytes(self.byte(p + k) for k in range(8)), "little")
+
+    def physical(self, address):
+        """Where the walk leads; with CR3 = 0 the address itself."""
+        table = self.words[CR3]
+        if table == 0:
+            return address
+        for lowest in (39, 30, 21):
+            table = self.word((table + 8 * (address >> lowest & 0x1FF)) % TOP) & ~0xFFF
+        return (table + address % (1 << 21)) % TOP
+
+    def read(self, address, n):
         self.check(n)
+        p = self.physical(address)
         return bytes(self.byte(p + k) for k in range(n))
 
-    def write(self, p, data):
-        """The event, or a refusal."""
+    def write(self, address, data):
+        """The event, or a refusal: 6 with the number of slots that lack (02, No. 5)."""
         self.check(len(data))
         if not data:
             return None
+        p = self.physical(address)
         absent = [q for q in range(p // 4096, (p + len(data) - 1) // 4096 + 1) if self.slot(q) is None]
-        if len(absent) > len(self.directory) - self.used:
-            raise Refused(6)
+        unused = len(self.directory) - self.used
+        if len(absent) > unused:
+            raise Refused(6, len(absent) - unused)
         for q in absent:
             self.directory[self.used] = q
             self.bytes[4096 * self.used : 4096 * self.used + 4096] = bytes(4096)
@@ -129,7 +144,7 @@ class Model:
 
 class Stream:
     def __init__(self, calls, answers):
-        self.calls, self.answers, self.counted = calls, answers, 0
+        self.calls, self.answers, self.counted, self.refused = calls, answers, 0, 0
 
     def put(self, header, block, answer, lent, used):
         header = list(header) + [0] * (16 - len(header))
@@ -190,9 +205,12 @@ class Stream:
                 if kind == PUSH:
                     m.words[RSP] = to
         except Refused as why:
-            refusal = why.args[0]
+            refusal, *said = why.args
+            if said:
+                shape, value = 1, said[0]
         self.put([kind, len(block), size, a, b, c, *op], block, [refusal, shape, value, *event], lent, m.used)
         self.counted += 1
+        self.refused = refusal
         return value
 
     def view(self, page, start=0, n=8, zeros=4096, last=0):

@@ -94,6 +94,42 @@ fn room() {
     end();
 }
 
+// Two bytes in two new pages, by a write, a push and an operand: a store of one slot, in use or not, has too few.
+fn lacking(text: &[u8], used: usize) {
+    let mut dir = [7u64; 1];
+    let mut bytes = [0u8; 4096];
+    let m = MachineState::new();
+    let wrote = m.mem_write(4095, &[1, 2], &mut dir, &mut bytes, used);
+    show_answer(text, wrote);
+    let stack = m.set_register_value(Register::RSP, 4097).machine;
+    let pushed = stack.stack_push(&[1, 2], &mut dir, &mut bytes, used);
+    show_answer(b"; pushed: ", pushed);
+    let operand = m.set_value(
+        0x0201,
+        at(4095),
+        ArgumentSize::Bit16,
+        &mut dir,
+        &mut bytes,
+        used,
+    );
+    show_answer(b"; by an operand: ", operand);
+    end();
+}
+
+// A full store has no slot for a new page; with one more it has.
+fn grown() {
+    let mut dir = [0u64; 1];
+    let mut bytes = [0u8; 4096];
+    let m = MachineState::new();
+    let full = m.mem_write(4096, &[1], &mut dir, &mut bytes, 1);
+    show_answer(b"a full store, one byte in a new page: ", full);
+    let mut dir = [0u64; 2];
+    let mut bytes = [0u8; 8192];
+    let more = m.mem_write(4096, &[1], &mut dir, &mut bytes, 1);
+    show_answer(b"; with a slot more: ", more);
+    end();
+}
+
 fn screen(text: &[u8], address: u64) {
     let mut dir = [0u64; 1];
     let mut bytes = [0u8; 4096];
@@ -113,6 +149,9 @@ pub(crate) fn all() {
     top();
     walk();
     room();
+    lacking(b"no unused slot, two bytes at 4095: ", 1);
+    lacking(b"one unused slot, two bytes at 4095: ", 0);
+    grown();
     screen(b"0xB8000", 0xB8000);
     screen(b"0xB8FA0", 0xB8FA0);
     screen(b"0xB8001", 0xB8001);

@@ -28,17 +28,16 @@ pub(crate) fn show_flag(text: &[u8], set: bool) {
     label(b"clear");
 }
 
-// 01's number of a refusal.
-fn number(why: Refusal) -> u64 {
-    match why {
-        Refusal::NotAnAddress => 1,
-        Refusal::IntoImmediate => 2,
-        Refusal::NoScale => 3,
-        Refusal::Memory(memory) => match memory {
-            mmu::Refusal::BadStore => 4,
-            mmu::Refusal::TooLong => 5,
-            mmu::Refusal::NoRoom => 6,
-        },
+// A refusal by 01's number; 6 says how many slots lack.
+fn show_refusal(why: Refusal) {
+    show(b"refusal ", why.number());
+    let lacking = why.lacking() as u64;
+    if lacking == 1 {
+        label(b", 1 slot lacks");
+    }
+    if 1 < lacking {
+        show(b", ", lacking);
+        label(b" slots lack");
     }
 }
 
@@ -53,7 +52,7 @@ pub(crate) fn show_answer(text: &[u8], answered: Answered) {
         Answer::Truth(yes) => show_flag(text, yes),
         Answer::Refused(why) => {
             label(text);
-            show(b"refusal ", number(why));
+            show_refusal(why);
         }
     }
 }

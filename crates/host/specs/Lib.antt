@@ -1,2 +1,3 @@
 pub mod LentWords
 pub mod Numbered
+pub mod LentStore

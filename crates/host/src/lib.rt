@@ -1,20 +1,27 @@
 // A host keeps one machine and lends it: a flag is set in the machine behind a reference, through the by-value call of machine_state, from Rattle
 // (`set_flag`) or from C and Rust (`ruonasvel_set_flag`); and, from C and Rust, two values are added, subtracted or compared with its rflags
-// (`ruonasvel_arithmetic`), or the flags of a result are computed at its size (`ruonasvel_compute_sized_flags`). Those for C are declared in
-// host/ruonasvel.h. Below are instruction_set and machine_state, arithmetic, which has the operations, fields, which has the flags of a result,
-// and numbers, which names operations and sizes; above is only the host. tools/link links this crate to programs in C.
+// (`ruonasvel_arithmetic`), the flags of a result are computed at its size (`ruonasvel_compute_sized_flags`), or bytes are written to a lent store,
+// which grows by as many slots as the answer says that lack (`ruonasvel_mem_write`). Those for C are declared in host/ruonasvel.h. Below are
+// instruction_set and machine_state, arithmetic, which has the operations, fields, which has the flags of a result, numbers, which names operations
+// and sizes, and mmu, which writes memory; above is only the host. tools/link links this crate to programs in C.
 // Document 01: "After the core, the host keeps one machine and lends it to set a flag"; the flags' numbers are those of "Places and calls".
-// Document 02: No. 2, No. 4.
+// Document 02: No. 2, No. 4, No. 5.
 use arithmetic::Operation;
 use instruction_set::Flags;
 use instruction_set::SomeSize;
 use machine_state::MachineState;
 use numbers::SomeOperation;
 ghost use mathlib.Core.Path.{_≡_};
+ghost use lib.ListN.{getD};
+ghost use Rattle.store.specs.Store.{storeOf};
+ghost use Rattle.mmu.specs.Calls.{outcomeOf};
 ghost use Rattle.machine_state.specs.Flagged.{setFlag};
 ghost use Rattle.numbers.specs.Numbers.{sizeAt, operationAt};
 ghost use Rattle.host.specs.Numbered.{flagAt, names, isSet, setNumbered};
 ghost use Rattle.host.specs.LentWords.{lentAfter, unnamedAnswer, namedAnswer, answerTo, operatedOn, namesSize, sizedFlagsOn};
+ghost use Rattle.host.specs.LentStore.{saysFirst, showsByte, byteShown, WroteLent};
+
+const CR3: usize = 19;
 
 // The by-value call's event is always Quiet, so nothing of its answer is lost.
 pub fn set_flag(m: &mut MachineState, flag: Flags, value: bool)
@@ -147,4 +154,76 @@ pub extern "C" fn ruonasvel_compute_sized_flags(
     };
     machine[22] = fields::sized_flags(machine[22], result, width);
     true
+}
+
+// What a write answers: the refusal's number, or 0; how many slots lack where that is 6; the slots in use afterwards; whether the screen shows a
+// byte (1), and which.
+#[repr(C)]
+pub struct WriteAnswer {
+    pub refusal: u64,
+    pub lacking: u64,
+    pub used: usize,
+    pub shows: u64,
+    pub byte: u64,
+}
+
+// Bytes go to an address of a lent store. The machine is lent as its 25 words, of which CR3 is read and none changes.
+#[no_mangle]
+pub extern "C" fn ruonasvel_mem_write(
+    machine: &[u64; 25],
+    address: u64,
+    data: &[u8],
+    dir: &mut [u64],
+    bytes: &mut [u8],
+    used: usize,
+) -> WriteAnswer
+    ensures { λ r. ⌜ WroteLent (now (machine .entry)) (storeOf (now (dir .entry)) (now (bytes .entry)) used)
+        (storeOf (now (dir .exit)) (now (bytes .exit)) (r .used)) address (now («data» .entry)) r ⌝ }
+{
+    let written = mmu::mem_write(machine[CR3], address, data, dir, bytes, used);
+    let answer = written.answer;
+    let shown = written.shown;
+    WriteAnswer {
+        refusal: refusal_of(answer),
+        lacking: lacking_of(answer),
+        used: written.used,
+        shows: shows_byte(shown),
+        byte: byte_shown(shown),
+    }
+}
+
+fn refusal_of(answer: mmu::Answer) -> u64
+    ensures { λ n. ⌜ n ≡ outcomeOf answer .number ⌝ }
+{
+    match answer {
+        mmu::Answer::Done => 0,
+        mmu::Answer::Refused(why) => why.number(),
+    }
+}
+
+fn lacking_of(answer: mmu::Answer) -> u64
+    ensures { λ n. ⌜ n ≡ saysFirst (outcomeOf answer) ⌝ }
+{
+    match answer {
+        mmu::Answer::Done => 0,
+        mmu::Answer::Refused(why) => why.lacking() as u64,
+    }
+}
+
+fn shows_byte(shown: mmu::Shown) -> u64
+    ensures { λ n. ⌜ n ≡ showsByte shown ⌝ }
+{
+    match shown {
+        mmu::Shown::Nothing => 0,
+        mmu::Shown::Byte(_) => 1,
+    }
+}
+
+fn byte_shown(shown: mmu::Shown) -> u64
+    ensures { λ n. ⌜ n ≡ byteShown shown ⌝ }
+{
+    match shown {
+        mmu::Shown::Nothing => 0,
+        mmu::Shown::Byte(byte) => byte as u64,
+    }
 }

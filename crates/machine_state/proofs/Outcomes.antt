@@ -1,7 +1,7 @@
 -- Each answer's outcome belongs to it alone: the answer can be told from it, its number first. So a call's contract, which gives what the
 -- call leaves, fixes the answer, the machine, the event, the count and every lent slice. Assumes nothing.
 use mathlib.Core.Bool.{false, cond}
-use mathlib.Core.List.{List, [], _∷_}
+use mathlib.Core.List.{List, [], _∷_, map}
 use mathlib.Core.Path.{_≡_, refl, sym, _∙_, ap}
 use Prim.Native.Nat.{ℕ, _≤_}
 use native.Mathlib.Omega.{arith}
@@ -11,7 +11,7 @@ use lib.ListN.{getD}
 use Rattle.utils.specs.Outcome.{Outcome}
 use Rattle.mmu.specs.declared.Refusal.the-variants.{BadStore, TooLong, NoRoom}
 use Rattle.mmu.proofs.Answers as memory
-use Rattle.machine_state.specs.Answers.{Value, word, truth, numberOf, addressOutcome, outcomeOf, After, left}
+use Rattle.machine_state.specs.Answers.{Value, word, truth, numberOf, saidBy, addressOutcome, outcomeOf, After, left}
 use Rattle.machine_state.specs.declared.Address.{Address}
 use Rattle.machine_state.specs.declared.Address.the-variants as at
 use Rattle.machine_state.specs.declared.Answer.{Answer}
@@ -30,22 +30,22 @@ number-some (Memory r) = memory.number-some r
 pub not-zero : (r : Refusal) → eqb (numberOf r) 0 ≡ false
 not-zero r = let h = number-some r in ne-eqb (numberOf r) 0 (λ e. omega arith)
 
--- the refusal of a number
-abbrev refusalOf : ℕ → Refusal
-refusalOf n =
-    getD (NotAnAddress ∷ NotAnAddress ∷ IntoImmediate ∷ NoScale ∷ Memory BadStore ∷ Memory TooLong ∷ Memory NoRoom ∷ []) n NotAnAddress
+-- the refusal of a number, and of what it says, if it says something
+abbrev refusalOf : ℕ → ℕ → Refusal
+refusalOf n k =
+    getD (NotAnAddress ∷ NotAnAddress ∷ IntoImmediate ∷ NoScale ∷ Memory BadStore ∷ Memory TooLong ∷ Memory (NoRoom k) ∷ []) n NotAnAddress
 
-refusal-back : (r : Refusal) → refusalOf (numberOf r) ≡ r
+refusal-back : (r : Refusal) → refusalOf (numberOf r) (getD (saidBy r) 0 0) ≡ r
 refusal-back NotAnAddress = refl
 refusal-back IntoImmediate = refl
 refusal-back NoScale = refl
 refusal-back (Memory BadStore) = refl
 refusal-back (Memory TooLong) = refl
-refusal-back (Memory NoRoom) = refl
+refusal-back (Memory (NoRoom k)) = refl
 
 -- the answers of an outcome
 abbrev addressBy : ℕ → List ℕ → Address
-addressBy n vs = cond (eqb n 0) (at.At (getD vs 0 0)) (at.Refused (refusalOf n))
+addressBy n vs = cond (eqb n 0) (at.At (getD vs 0 0)) (at.Refused (refusalOf n (getD vs 0 0)))
 
 address-back : (a : Address) → addressBy (addressOutcome a .number) (addressOutcome a .values) ≡ a
 address-back (at.At a) = refl
@@ -59,14 +59,23 @@ answerGiven [] = answer.Done
 answerGiven (word v ∷ rest) = answer.Value v
 answerGiven (truth b ∷ rest) = answer.Truth b
 
+abbrev firstWord : List Value → ℕ
+firstWord [] = 0
+firstWord (word v ∷ rest) = v
+firstWord (truth b ∷ rest) = 0
+
+first-said : (l : List ℕ) → firstWord (map word l) ≡ getD l 0 0
+first-said [] = refl
+first-said (v ∷ rest) = refl
+
 abbrev answerBy : ℕ → List Value → Answer
-answerBy n vs = cond (eqb n 0) (answerGiven vs) (answer.Refused (refusalOf n))
+answerBy n vs = cond (eqb n 0) (answerGiven vs) (answer.Refused (refusalOf n (firstWord vs)))
 
 answer-back : (a : Answer) → answerBy (outcomeOf a .number) (outcomeOf a .values) ≡ a
 answer-back answer.Done = refl
 answer-back (answer.Value v) = refl
 answer-back (answer.Truth b) = refl
-answer-back (answer.Refused r) = rw (not-zero r) (ap answer.Refused (refusal-back r))
+answer-back (answer.Refused r) = rw (not-zero r, first-said (saidBy r)) (ap answer.Refused (refusal-back r))
 
 pub answer-outcome : (a b : Answer) → outcomeOf a ≡ outcomeOf b → a ≡ b
 answer-outcome a b e = sym (answer-back a) ∙ ap (λ (o : Outcome Value). answerBy (o .number) (o .values)) e ∙ answer-back b

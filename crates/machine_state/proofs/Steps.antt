@@ -2,7 +2,7 @@
 -- bytes lent to a read with zeros above them. Each is one equation between records, so that a call's proof puts them end to end. Assumes
 -- nothing.
 use mathlib.Core.Bool.{false, cond}
-use mathlib.Core.List.{List, [], _∷_, _++_}
+use mathlib.Core.List.{List, [], _∷_, _++_, map}
 use mathlib.Core.Logic.{⊎-elim}
 use mathlib.Core.Path.{_≡_, refl, _∙_, ap}
 use Prim.Native.Nat.{ℕ, zero, suc, _+_, _-_, _%_, _^_, _<_, _≤_}
@@ -11,7 +11,7 @@ use denote.Enum.Declared.{tagOf}
 use types.Run.{OneOf}
 use lib.ListN.{length, take, drop, replicate}
 use Rattle.utils.specs.Bytes.{toBytes, fromBytes}
-use Rattle.utils.specs.Outcome.{refuses, accepted}
+use Rattle.utils.specs.Outcome.{refusesWith, accepted}
 use Rattle.utils.proofs.Bytes.{from-padded, take-toBytes}
 use Rattle.utils.proofs.Outcomes.{on-refused}
 use Rattle.instruction_set.specs.Sizes.{bytesOf}
@@ -27,7 +27,7 @@ use Rattle.mmu.specs.declared.Answer.{Answer as MemoryAnswer}
 use Rattle.mmu.specs.declared.Answer.the-variants as memory
 use Rattle.mmu.specs.declared.Shown.{Shown}
 use Rattle.machine_state.specs.Address.{addressOf}
-use Rattle.machine_state.specs.Answers.{Value, After, left, outcomeOf, numberOf}
+use Rattle.machine_state.specs.Answers.{Value, word, After, left, outcomeOf, numberOf, saidBy}
 use Rattle.machine_state.specs.Memory.{after, passed, eventShown, readMemory, writeMemory, valued, withValue, loaded, storedAt}
 use Rattle.machine_state.specs.Memory.{atAddress, readOperand, writeOperand, moved, below, cr3}
 use Rattle.machine_state.specs.Steps.{answered, finished, fromMemory, isRefused, givenValue, givenRsp}
@@ -130,8 +130,9 @@ module _ (m : MachineState) (s : Store) (z : ArgumentSize) where
 
 -- an address that is refused
 pub address-refused : (m : MachineState) (s : Store) (r : Refusal) (go : ℕ → After)
-    → atAddress m s (refuses (numberOf r)) go ≡ after m s [] Quiet (refuses (numberOf r))
-address-refused m s r go = on-refused (numberOf r) [] go (after m s [] Quiet (refuses (numberOf r))) (number-some r)
+    → atAddress m s (refusesWith (numberOf r) (saidBy r)) go ≡ after m s [] Quiet (refusesWith (numberOf r) (map word (saidBy r)))
+address-refused m s r go =
+    on-refused (numberOf r) (saidBy r) go (after m s [] Quiet (refusesWith (numberOf r) (map word (saidBy r)))) (number-some r)
 
 -- ---- a load, put together
 -- the value that is given where the read is accepted, by what the read leaves

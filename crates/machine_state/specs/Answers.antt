@@ -1,9 +1,9 @@
 -- What an answer says, by 01's "Refusal numbers", and what a call leaves.
 use mathlib.Core.Bool.{Bool}
-use mathlib.Core.List.{List, [], _∷_}
+use mathlib.Core.List.{List, [], _∷_, map}
 use Prim.Native.Nat.{ℕ}
-use Rattle.utils.specs.Outcome.{Outcome, gives, refuses}
-use Rattle.mmu.specs.Calls.{numberOf as memoryNumber}
+use Rattle.utils.specs.Outcome.{Outcome, gives, refusesWith}
+use Rattle.mmu.specs.Calls.{numberOf as memoryNumber, saidBy as saidByMemory}
 use Rattle.store.specs.Store.{Store, storeOf}
 use Rattle.machine_state.specs.declared.Address.{Address}
 use Rattle.machine_state.specs.declared.Address.the-variants as at
@@ -22,9 +22,16 @@ numberOf IntoImmediate = 2
 numberOf NoScale = 3
 numberOf (Memory r) = memoryNumber r
 
+-- what a refusal says besides its number
+abbrev pub saidBy : Refusal → List ℕ
+saidBy NotAnAddress = []
+saidBy IntoImmediate = []
+saidBy NoScale = []
+saidBy (Memory r) = saidByMemory r
+
 abbrev pub addressOutcome : Address → Outcome ℕ
 addressOutcome (at.At a) = gives (a ∷ [])
-addressOutcome (at.Refused r) = refuses (numberOf r)
+addressOutcome (at.Refused r) = refusesWith (numberOf r) (saidBy r)
 
 -- a value is a word, or yes or no
 pub data Value : Type 0 where
@@ -35,7 +42,7 @@ abbrev pub outcomeOf : Answer → Outcome Value
 outcomeOf answer.Done = gives []
 outcomeOf (answer.Value v) = gives (word v ∷ [])
 outcomeOf (answer.Truth b) = gives (truth b ∷ [])
-outcomeOf (answer.Refused r) = refuses (numberOf r)
+outcomeOf (answer.Refused r) = refusesWith (numberOf r) (map word (saidBy r))
 
 -- ---- what a call leaves: the machine, the store with its count, the bytes lent to it, the event and what it answers
 pub record After : Type 0 where

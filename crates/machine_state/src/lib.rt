@@ -10,11 +10,12 @@ use instruction_set::Register;
 use instruction_set::SomeRegister;
 use instruction_set::SomeScale;
 ghost use mathlib.Core.Path.{_≡_};
+ghost use lib.ListN.{getD};
 ghost use Rattle.machine_state.specs.Machine.{newMachine, readReg, writeReg, eventOf, changed};
 ghost use Rattle.machine_state.specs.Flagged.{flagIn, setFlag, computeFlags, computeSizedFlags};
 ghost use Rattle.machine_state.specs.Operating.{answerOf, operated};
 ghost use Rattle.machine_state.specs.Address.{baseOf, addressOf};
-ghost use Rattle.machine_state.specs.Answers.{addressOutcome};
+ghost use Rattle.machine_state.specs.Answers.{numberOf, saidBy, addressOutcome};
 ghost use Rattle.machine_state.specs.declared.Event.the-variants.{Quiet};
 
 // Parents are numbered as in 01. CR0 is the first whose write gives an event.
@@ -47,6 +48,32 @@ pub enum Refusal {
     IntoImmediate,
     NoScale,
     Memory(mmu::Refusal),
+}
+
+impl Refusal {
+    // 01's number.
+    pub fn number(self) -> u64
+        ensures { λ n. ⌜ n ≡ numberOf self ⌝ }
+    {
+        match self {
+            Refusal::NotAnAddress => 1,
+            Refusal::IntoImmediate => 2,
+            Refusal::NoScale => 3,
+            Refusal::Memory(why) => why.number(),
+        }
+    }
+
+    // How many slots lack, where it is 6; else 0.
+    pub fn lacking(self) -> usize
+        ensures { λ n. ⌜ n ≡ getD (saidBy self) 0 0 ⌝ }
+    {
+        match self {
+            Refusal::NotAnAddress => 0,
+            Refusal::IntoImmediate => 0,
+            Refusal::NoScale => 0,
+            Refusal::Memory(why) => why.lacking(),
+        }
+    }
 }
 
 pub enum Address {

@@ -9,13 +9,13 @@ use lib.Dec.{leb}
 use lib.ListN.{length, getD}
 use borrow.Author.Tests.{leb-true, le-leb, lt-leb, eq-eqb, ne-eqb}
 use Rattle.runs.specs.Runs.{tabulate}
-use Rattle.utils.specs.Outcome.{Outcome, gives, refuses}
-use Rattle.store.specs.Store.{Store, storeOf, sound, live, unused, readAt, written, touched, absentOf}
+use Rattle.utils.specs.Outcome.{Outcome, gives, refuses, refusesWith}
+use Rattle.store.specs.Store.{Store, storeOf, sound, live, unused, readAt, written, touched, absentOf, slotsLacking}
 use Rattle.store.specs.Facts.{Sound}
 use Rattle.walk.specs.Walk.{physical, translated, readInto}
 use Rattle.writes.specs.Writes.{byteOf, Stored}
 use Rattle.writes.specs.Parts.{Fits}
-use Rattle.mmu.specs.Calls.{numberOf, outcomeOf, readOutcome, readOut, writeOutcome, writeStore, cell, shownAt, shownOf}
+use Rattle.mmu.specs.Calls.{numberOf, saidBy, outcomeOf, readOutcome, readOut, writeOutcome, writeStore, cell, shownAt, shownOf}
 use Rattle.mmu.specs.Calls.{Wrote}
 use Rattle.mmu.specs.Parts.{RefusedFor}
 use Rattle.mmu.specs.declared.Refusal.{Refusal}
@@ -26,31 +26,33 @@ use Rattle.mmu.specs.declared.Shown.{Shown}
 use Rattle.mmu.specs.declared.Shown.the-variants.{Nothing as Dark, Byte}
 use Rattle.mmu.specs.declared.Written.{Written}
 use Rattle.store.proofs.Read.{sound-facts, sound-true}
+use Rattle.store.proofs.Absent.{absent-at-most}
 use Rattle.walk.proofs.Walked.{translated-of, read-of}
-use Rattle.writes.proofs.Stores.{done-room, done-written, lacks-room, lacks-same}
+use Rattle.writes.proofs.Stores.{done-room, done-written, lacks-room, lacks-so-many, lacks-same}
 
 -- ---- an outcome tells its answer
-refusal-one : (a b : Refusal) → numberOf a ≡ numberOf b → a ≡ b
-refusal-one BadStore BadStore e = refl
-refusal-one BadStore TooLong e = absurd (omega arith)
-refusal-one BadStore NoRoom e = absurd (omega arith)
-refusal-one TooLong BadStore e = absurd (omega arith)
-refusal-one TooLong TooLong e = refl
-refusal-one TooLong NoRoom e = absurd (omega arith)
-refusal-one NoRoom BadStore e = absurd (omega arith)
-refusal-one NoRoom TooLong e = absurd (omega arith)
-refusal-one NoRoom NoRoom e = refl
+refusal-one : (a b : Refusal) → numberOf a ≡ numberOf b → saidBy a ≡ saidBy b → a ≡ b
+refusal-one BadStore BadStore e f = refl
+refusal-one BadStore TooLong e f = absurd (omega arith)
+refusal-one BadStore (NoRoom k) e f = absurd (omega arith)
+refusal-one TooLong BadStore e f = absurd (omega arith)
+refusal-one TooLong TooLong e f = refl
+refusal-one TooLong (NoRoom k) e f = absurd (omega arith)
+refusal-one (NoRoom j) BadStore e f = absurd (omega arith)
+refusal-one (NoRoom j) TooLong e f = absurd (omega arith)
+refusal-one (NoRoom j) (NoRoom k) e f = ap (λ (l : List ℕ). NoRoom (getD l 0 0)) f
 
 pub number-some : (a : Refusal) → 1 ≤ numberOf a
 number-some BadStore = omega arith
 number-some TooLong = omega arith
-number-some NoRoom = omega arith
+number-some (NoRoom k) = omega arith
 
 pub outcome-one : (a b : Answer) → outcomeOf a ≡ outcomeOf b → a ≡ b
 outcome-one Done Done e = refl
 outcome-one Done (Refused b) e = absurd (omega (arith, number-some b, ap (λ (o : Outcome ℕ). o .number) e))
 outcome-one (Refused a) Done e = absurd (omega (arith, number-some a, ap (λ (o : Outcome ℕ). o .number) e))
-outcome-one (Refused a) (Refused b) e = ap Refused (refusal-one a b (ap (λ (o : Outcome ℕ). o .number) e))
+outcome-one (Refused a) (Refused b) e =
+    ap Refused (refusal-one a b (ap (λ (o : Outcome ℕ). o .number) e) (ap (λ (o : Outcome ℕ). o .values) e))
 
 -- ---- a read
 pub read-bad : (s : Store) (n : ℕ) → sound s ≡ false → readOutcome s n ≡ refuses 4
@@ -95,7 +97,7 @@ unfolding writeOutcome
 write-long s p n e h = rw (e, lt-leb n 4096 h)
 
 pub write-full : (s : Store) (p n : ℕ) → sound s ≡ true → n ≤ 4096 → unused s < absentOf (live s) (touched p n)
-    → writeOutcome s p n ≡ refuses 6
+    → writeOutcome s p n ≡ refusesWith 6 (slotsLacking s p n ∷ [])
 unfolding writeOutcome
 write-full s p n e b r = rw (e, le-leb n 4096 b, lt-leb _ _ r)
 
@@ -120,7 +122,8 @@ accepts-only s p n e =
     go (sound s) refl (leb n 4096) refl (leb (absentOf (live s) (touched p n)) (unused s)) refl (ap (λ (o : Outcome ℕ). o .number) e)
   where
     go : (a : Bool) → sound s ≡ a → (b : Bool) → leb n 4096 ≡ b → (c : Bool) → leb (absentOf (live s) (touched p n)) (unused s) ≡ c
-        → cond a (cond b (cond c (gives []) (outcomeOf (Refused NoRoom))) (refuses 5)) (refuses 4) .number ≡ 0 → Accepted s p n
+        → cond a (cond b (cond c (gives []) (refusesWith 6 (slotsLacking s p n ∷ []))) (refuses 5)) (refuses 4) .number ≡ 0
+        → Accepted s p n
     go true x true y true z w = record { sound = x; short = leb-true _ _ y; room = leb-true _ _ z }
     go true x true y false z w = absurd (omega arith)
     go true x false y c z w = absurd (omega arith)
@@ -132,7 +135,7 @@ unfolding writeOutcome
 write-accepted s p n e = go (sound s) (leb n 4096) (leb (absentOf (live s) (touched p n)) (unused s)) e
   where
     tested : Bool → Bool → Bool → Outcome ℕ
-    tested a b c = cond a (cond b (cond c (gives []) (refuses 6)) (refuses 5)) (refuses 4)
+    tested a b c = cond a (cond b (cond c (gives []) (refusesWith 6 (slotsLacking s p n ∷ []))) (refuses 5)) (refuses 4)
 
     go : (a b c : Bool) → tested a b c .number ≡ 0 → tested a b c ≡ gives []
     go true true true e = refl
@@ -150,13 +153,13 @@ unfolding writeStore
 store-done s p d e = rw e
 
 -- a refused write changes nothing, and shows nothing
-pub store-refused : (s : Store) (p n : ℕ) (d : List ℕ) → 1 ≤ n → writeOutcome s p (length d) ≡ refuses n → writeStore s p d ≡ s
+pub store-refused : (s : Store) (p n : ℕ) (d vs : List ℕ) → 1 ≤ n → writeOutcome s p (length d) ≡ refusesWith n vs → writeStore s p d ≡ s
 unfolding writeStore
-store-refused s p n d h e = rw e (rw (ne-eqb n 0 (λ q. omega arith)))
+store-refused s p n d vs h e = rw e (rw (ne-eqb n 0 (λ q. omega arith)))
 
-pub dark-refused : (s : Store) (p n : ℕ) (d : List ℕ) → 1 ≤ n → writeOutcome s p (length d) ≡ refuses n → shownOf s p d ≡ Dark
+pub dark-refused : (s : Store) (p n : ℕ) (d vs : List ℕ) → 1 ≤ n → writeOutcome s p (length d) ≡ refusesWith n vs → shownOf s p d ≡ Dark
 unfolding shownOf
-dark-refused s p n d h e = rw e (rw (ne-eqb n 0 (λ q. omega arith)))
+dark-refused s p n d vs h e = rw e (rw (ne-eqb n 0 (λ q. omega arith)))
 
 shown-done : (s : Store) (p : ℕ) (d : List ℕ) → writeOutcome s p (length d) ≡ gives [] → shownOf s p d ≡ shownAt p d
 unfolding shownOf
@@ -195,11 +198,15 @@ shown-empty p [] h = refl
 shown-empty p (b ∷ d) h = absurd (omega arith)
 
 -- ---- all that a write owes, from what the code's steps give
-pub wrote-refused : (s : Store) (p : ℕ) (d : List ℕ) (r : Refusal) → writeOutcome s p (length d) ≡ refuses (numberOf r)
+pub wrote-refused : (s : Store) (p : ℕ) (d : List ℕ) (r : Refusal) → writeOutcome s p (length d) ≡ outcomeOf (Refused r)
     → Wrote s s p d (Refused r) Dark
 wrote-refused s p d r e =
     let n = number-some r in
-    record { answer = sym e; shown = sym (dark-refused s p (numberOf r) d n e); store = sym (store-refused s p (numberOf r) d n e) }
+    record {
+      answer = sym e;
+      shown = sym (dark-refused s p (numberOf r) d (saidBy r) n e);
+      store = sym (store-refused s p (numberOf r) d (saidBy r) n e);
+    }
 
 pub wrote-done : (s t : Store) (p : ℕ) (d : List ℕ) (e : Shown) → writeOutcome s p (length d) ≡ gives []
     → t ≡ written s p (byteOf d) (length d) → e ≡ shownAt p d
@@ -223,19 +230,26 @@ wrote-one s t t′ p d r r′ e e′ w w′ =
 
 -- the answer of a refused write, as the code hands it back
 pub wrote-refused-for : (s : Store) (p : ℕ) (d : List ℕ) (r : Refusal) (w : Written) → RefusedFor w r (s .used)
-    → writeOutcome s p (length d) ≡ refuses (numberOf r) → Wrote s (storeOf (s .dir) (s .bytes) (w .used)) p d (w .answer) (w .shown)
+    → writeOutcome s p (length d) ≡ outcomeOf (Refused r) → Wrote s (storeOf (s .dir) (s .bytes) (w .used)) p d (w .answer) (w .shown)
 wrote-refused-for s p d r w h e = rw (h .answer, h .count, h .dark) (wrote-refused s p d r e)
 
 -- what `mem_write_phys` did, as the answer of a write: done, or no room
-pub wrote-placed : (s t : Store) (p : ℕ) (d : List ℕ) (b : Bool) (e : Shown) → Sound s → length d ≤ 4096 → Stored s t p d b → b ≡ true
-    → e ≡ shownAt p d → Wrote s t p d Done e
-wrote-placed s t p d b e h short w q ee =
+pub wrote-placed : (s t : Store) (p : ℕ) (d : List ℕ) (b : Bool) (k : ℕ) (e : Shown) → Sound s → length d ≤ 4096 → Stored s t p d b k
+    → b ≡ true → e ≡ shownAt p d → Wrote s t p d Done e
+wrote-placed s t p d b k e h short w q ee =
     let x = sound-true s h in
-    wrote-done s t p d e (write-done s p (length d) x short (done-room s t p d b x w q)) (done-written s t p d b w q) ee
+    wrote-done s t p d e (write-done s p (length d) x short (done-room s t p d b k w x q)) (done-written s t p d b k w q) ee
 
-pub wrote-lacking : (s t : Store) (p : ℕ) (d : List ℕ) (b : Bool) (w : Written) → Sound s → length d ≤ 4096 → Stored s t p d b → b ≡ false
-    → RefusedFor w NoRoom (t .used) → Wrote s (storeOf (t .dir) (t .bytes) (w .used)) p d (w .answer) (w .shown)
-wrote-lacking s t p d b w h short k q f =
+-- no more slots lack than bytes are written
+pub lacking-small : (s t : Store) (p : ℕ) (d : List ℕ) (b : Bool) (k : ℕ) → Sound s → length d ≤ 4096 → Stored s t p d b k → k ≤ 4096
+lacking-small s t p d b k h short w =
+    omega (arith, lacks-so-many s t p d b k w (sound-true s h), absent-at-most (live s) p (length d))
+
+-- with as many slots lacking as it says
+pub wrote-lacking : (s t : Store) (p : ℕ) (d : List ℕ) (b : Bool) (k : ℕ) (r : Written) → Sound s → length d ≤ 4096 → Stored s t p d b k
+    → b ≡ false → RefusedFor r (NoRoom k) (t .used) → Wrote s (storeOf (t .dir) (t .bytes) (r .used)) p d (r .answer) (r .shown)
+wrote-lacking s t p d b k r h short w q f =
     let x = sound-true s h in
-    let o = write-full s p (length d) x short (lacks-room s t p d b x k q) in
-    rw (f .answer, f .count, f .dark) (rw (lacks-same s t p d b k q) (wrote-refused s p d NoRoom o))
+    let o = write-full s p (length d) x short (lacks-room s t p d b k w x q) in
+    let n : refusesWith 6 (slotsLacking s p (length d) ∷ []) ≡ outcomeOf (Refused (NoRoom k)) = rw (lacks-so-many s t p d b k w x) in
+    rw (f .answer, f .count, f .dark) (rw (lacks-same s t p d b k w q) (wrote-refused s p d (NoRoom k) (o ∙ n)))

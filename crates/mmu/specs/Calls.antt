@@ -7,8 +7,8 @@ use mathlib.Core.List.{List, [], _∷_}
 use Prim.Native.Nat.{ℕ, _%_}
 use lib.Dec.{leb, eqb}
 use lib.ListN.{length}
-use Rattle.utils.specs.Outcome.{Outcome, gives, refuses, accepted}
-use Rattle.store.specs.Store.{Store, sound, slotsSuffice, readAt, written}
+use Rattle.utils.specs.Outcome.{Outcome, gives, refuses, refusesWith, accepted}
+use Rattle.store.specs.Store.{Store, sound, slotsSuffice, slotsLacking, readAt, written}
 use Rattle.walk.specs.Walk.{physical}
 use Rattle.writes.specs.Writes.{byteOf}
 use Rattle.mmu.specs.declared.Refusal.{Refusal}
@@ -18,15 +18,20 @@ use Rattle.mmu.specs.declared.Answer.the-variants.{Done, Refused}
 use Rattle.mmu.specs.declared.Shown.{Shown}
 use Rattle.mmu.specs.declared.Shown.the-variants.{Nothing as Dark, Byte}
 
--- 01's number of each refusal, and of each answer with its values
+-- 01's number of each refusal; what it says besides: 6, how many slots lack (02, No. 5); and of each answer its number and values
 abbrev pub numberOf : Refusal → ℕ
 numberOf BadStore = 4
 numberOf TooLong = 5
-numberOf NoRoom = 6
+numberOf (NoRoom k) = 6
+
+abbrev pub saidBy : Refusal → List ℕ
+saidBy BadStore = []
+saidBy TooLong = []
+saidBy (NoRoom k) = k ∷ []
 
 abbrev pub outcomeOf : Answer → Outcome ℕ
 outcomeOf Done = gives []
-outcomeOf (Refused r) = refuses (numberOf r)
+outcomeOf (Refused r) = refusesWith (numberOf r) (saidBy r)
 
 -- a read of n bytes: 4, then 5
 unfoldable pub readOutcome : Store → ℕ → Outcome ℕ
@@ -36,10 +41,13 @@ readOutcome s n = cond (sound s) (cond (leb n 4096) (gives []) (refuses 5)) (ref
 unfoldable pub readOut : Store → ℕ → ℕ → List ℕ → List ℕ
 readOut s cr3 a out = cond (accepted (readOutcome s (length out))) (readAt s (physical s cr3 a) (length out)) out
 
--- a write of n bytes at physical p: 4, then 5, then 6, "a write touches more absent pages than there are unused slots".
+-- a write of n bytes at physical p: 4, then 5, then 6, "a write touches more absent pages than there are unused slots", with their number.
 -- "Length 0 .. still reaches memory for refusal 4": it touches no page, so 6 is never given; that no walk is done shows in no outcome
 unfoldable pub writeOutcome : Store → ℕ → ℕ → Outcome ℕ
-writeOutcome s p n = cond (sound s) (cond (leb n 4096) (cond (slotsSuffice s p n) (gives []) (refuses 6)) (refuses 5)) (refuses 4)
+writeOutcome s p n =
+    cond (sound s)
+    (cond (leb n 4096) (cond (slotsSuffice s p n) (gives []) (refusesWith 6 (slotsLacking s p n ∷ []))) (refuses 5))
+    (refuses 4)
 
 -- the store after the bytes d are written at physical p; a refused write leaves it
 unfoldable pub writeStore : Store → ℕ → List ℕ → Store

@@ -2,26 +2,51 @@
 // The crate knows numbers and lent slices only: `machine_state`, above it, owns CR3 and passes it in; below it, `walk` goes from an address to a
 // physical one and reads bytes there, `writes` writes them, and `store` says what the lent slices are.
 // It carries document 01, "Addresses, pages, walk", as far as a call's order of steps and what the screen shows go, and refusals 4, 5 and 6 of
-// "Refusal numbers". Each public call takes every input, and its contract (specs/Calls.antt) fixes the answer, the count of slots in use, what is
+// "Refusal numbers", and document 02, No. 5: 6 says how many slots lack. Each public call takes every input, and its contract (specs/Calls.antt) fixes the answer, the count of slots in use, what is
 // shown and every lent byte, refused or not.
 ghost use mathlib.Core.Path.{_≡_};
 ghost use Prim.Native.Nat.{_≤_};
-ghost use lib.ListN.{length};
+ghost use lib.ListN.{length, getD};
 ghost use Rattle.store.specs.Store.{storeOf};
 ghost use Rattle.store.specs.Facts.{Sound};
 ghost use Rattle.walk.specs.Walk.{physical};
 ghost use Rattle.mmu.specs.Parts.{RefusedFor};
-ghost use Rattle.mmu.specs.Calls.{outcomeOf, readOutcome, readOut, shownAt, Wrote};
+ghost use Rattle.mmu.specs.Calls.{numberOf, saidBy, outcomeOf, readOutcome, readOut, shownAt, Wrote};
 use store::is_store;
 use walk::mem_read_phys;
 use walk::translate_virtual_to_physical_address;
 use writes::mem_write_phys;
 
-// 01's refusals 4, 5 and 6.
+// 01's refusals 4, 5 and 6, which says how many slots lack: absent pages touched minus unused slots. They are no more than the bytes of an access, so
+// 32 bits hold them, and every answer that holds a refusal stays small.
 pub enum Refusal {
     BadStore,
     TooLong,
-    NoRoom,
+    NoRoom { lacking: u32 },
+}
+
+impl Refusal {
+    // 01's number.
+    pub fn number(self) -> u64
+        ensures { λ n. ⌜ n ≡ numberOf self ⌝ }
+    {
+        match self {
+            Refusal::BadStore => 4,
+            Refusal::TooLong => 5,
+            Refusal::NoRoom { .. } => 6,
+        }
+    }
+
+    // How many slots lack, where it is 6; else 0.
+    pub fn lacking(self) -> usize
+        ensures { λ n. ⌜ n ≡ getD (saidBy self) 0 0 ⌝ }
+    {
+        match self {
+            Refusal::BadStore => 0,
+            Refusal::TooLong => 0,
+            Refusal::NoRoom { lacking } => lacking as usize,
+        }
+    }
 }
 
 pub enum Answer {
@@ -104,7 +129,8 @@ fn write_at(p: u64, data: &[u8], dir: &mut [u64], bytes: &mut [u8], used: usize)
 {
     let placed = mem_write_phys(p, data, dir, bytes, used);
     if !placed.done {
-        return refused(Refusal::NoRoom, placed.used);
+        let lacking = placed.lacking as u32;
+        return refused(Refusal::NoRoom { lacking }, placed.used);
     }
     let shown = shown_at(p, data);
     Written {

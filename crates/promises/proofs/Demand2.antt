@@ -17,7 +17,7 @@ use Rattle.utils.specs.Bytes.{toBytes, fromBytes}
 use Rattle.utils.proofs.Bytes.{from-to, length-toBytes}
 use Rattle.instruction_set.specs.Sizes.{bytesOf}
 use Rattle.fields.specs.Parts.{memoryValue, lowBits}
-use Rattle.utils.specs.Outcome.{gives, accepted}
+use Rattle.utils.specs.Outcome.{Outcome, gives, accepted}
 use Rattle.utils.specs.Word.{cut, lane}
 use Rattle.instruction_set.specs.Registers.{row}
 use Rattle.instruction_set.specs.declared.ArgumentSize.{ArgumentSize}
@@ -39,7 +39,7 @@ use Rattle.mmu.proofs.Answers.{read-done, out-done, accepts-only, write-accepte
 use Rattle.mmu.proofs.Laws.{law-out, law-byte, law-read, law-sound, law-walk, law-count}
 use Rattle.walk.proofs.Walked.{physical-off}
 use Rattle.machine_state.specs.Address.{addressOf}
-use Rattle.machine_state.specs.Answers.{word, After}
+use Rattle.machine_state.specs.Answers.{Value, word, After}
 use Rattle.machine_state.specs.Flagged.{setFlag}
 use Rattle.machine_state.specs.Memory.{rsp, cr3, withRsp, after, passed, readMemory, writeMemory, loaded, storedAt, readOperand}
 use Rattle.machine_state.specs.Memory.{writeOperand, below, pushed, popped}
@@ -176,43 +176,43 @@ last-is given of Good keep one [] x g = refl
 last-is given of Good keep one (a ∷ acts) x g =
     last-is given of Good keep one acts (does a x .after) (keep a x g) ∙ ap (last given acts (does a x .after)) (one a x g)
 
--- ---- memory: the store after a call is what its access leaves, and a writing call is accepted where its write is
-abbrev storeBy : MachineState → Store → Access → Store
+-- ---- memory: the store after a call is what its access leaves, and a writing call answers what its write does
+abbrev pub storeBy : MachineState → Store → Access → Store
 storeBy m s none = s
 storeBy m s (reading x n) = s
 storeBy m s (writing x d) = writeStore s (physical s (cr3 m) x) d
 
-abbrev NumberBy : MachineState → Store → ℕ → Access → Type 0
-NumberBy m s k none = Unit {0}
-NumberBy m s k (reading x n) = Unit {0}
-NumberBy m s k (writing x d) = k ≡ writeOutcome s (physical s (cr3 m) x) (length d) .number
+abbrev pub OutcomeBy : MachineState → Store → Outcome Value → Access → Type 0
+OutcomeBy m s o none = Unit {0}
+OutcomeBy m s o (reading x n) = Unit {0}
+OutcomeBy m s o (writing x d) = o ≡ passed (writeOutcome s (physical s (cr3 m) x) (length d))
 
-record Accessed (c : Call) (m : MachineState) (s : Store) (l : List ℕ) : Type 0 where
-  store : step c m s l .store ≡ storeBy m s (accessOf c m l)
-  number : NumberBy m s (step c m s l .outcome .number) (accessOf c m l)
+pub record Accessed (c : Call) (m : MachineState) (s : Store) (l : List ℕ) : Type 0 where
+  pub store : step c m s l .store ≡ storeBy m s (accessOf c m l)
+  pub outcome : OutcomeBy m s (step c m s l .outcome) (accessOf c m l)
 
-accessed : (c : Call) (m : MachineState) (s : Store) (l : List ℕ) → Accessed c m s l
+pub accessed : (c : Call) (m : MachineState) (s : Store) (l : List ℕ) → Accessed c m s l
 unfolding step readOperand writeOperand addressOf loaded storedAt pushed popped readMemory writeMemory accessOf
-accessed (ReadOperand (arg.Register r) z) m s l = record { store = refl; number = tt }
-accessed (ReadOperand (arg.Immediate v) z) m s l = record { store = refl; number = tt }
-accessed (ReadOperand (arg.EffectiveAddress b reg.Absent k d) z) m s l = record { store = refl; number = tt }
-accessed (ReadOperand (arg.EffectiveAddress b (reg.Present r) by.Absent d) z) m s l = record { store = refl; number = tt }
-accessed (ReadOperand (arg.EffectiveAddress b (reg.Present r) (by.Present n) d) z) m s l = record { store = refl; number = tt }
-accessed (WriteOperand (arg.Register r) z v) m s l = record { store = refl; number = tt }
-accessed (WriteOperand (arg.Immediate x) z v) m s l = record { store = refl; number = tt }
-accessed (WriteOperand (arg.EffectiveAddress b reg.Absent k d) z v) m s l = record { store = refl; number = refl }
-accessed (WriteOperand (arg.EffectiveAddress b (reg.Present r) by.Absent d) z v) m s l = record { store = refl; number = tt }
-accessed (WriteOperand (arg.EffectiveAddress b (reg.Present r) (by.Present n) d) z v) m s l = record { store = refl; number = refl }
-accessed (EffectiveAddress a) m s l = record { store = refl; number = tt }
-accessed Push m s l = record { store = refl; number = refl }
-accessed Pop m s l = record { store = refl; number = tt }
-accessed (ReadMemory a) m s l = record { store = refl; number = tt }
-accessed (WriteMemory a) m s l = record { store = refl; number = refl }
-accessed (TestFlag f) m s l = record { store = refl; number = tt }
-accessed (SetFlag f b) m s l = record { store = refl; number = tt }
-accessed (ComputeFlags x z) m s l = record { store = refl; number = tt }
-accessed (ComputeSizedFlags x z) m s l = record { store = refl; number = tt }
-accessed (Arithmetic o z a b) m s l = record { store = refl; number = tt }
+accessed (ReadOperand (arg.Register r) z) m s l = record { store = refl; outcome = tt }
+accessed (ReadOperand (arg.Immediate v) z) m s l = record { store = refl; outcome = tt }
+accessed (ReadOperand (arg.EffectiveAddress b reg.Absent k d) z) m s l = record { store = refl; outcome = tt }
+accessed (ReadOperand (arg.EffectiveAddress b (reg.Present r) by.Absent d) z) m s l = record { store = refl; outcome = tt }
+accessed (ReadOperand (arg.EffectiveAddress b (reg.Present r) (by.Present n) d) z) m s l = record { store = refl; outcome = tt }
+accessed (WriteOperand (arg.Register r) z v) m s l = record { store = refl; outcome = tt }
+accessed (WriteOperand (arg.Immediate x) z v) m s l = record { store = refl; outcome = tt }
+accessed (WriteOperand (arg.EffectiveAddress b reg.Absent k d) z v) m s l = record { store = refl; outcome = refl }
+accessed (WriteOperand (arg.EffectiveAddress b (reg.Present r) by.Absent d) z v) m s l = record { store = refl; outcome = tt }
+accessed (WriteOperand (arg.EffectiveAddress b (reg.Present r) (by.Present n) d) z v) m s l = record { store = refl; outcome = refl }
+accessed (EffectiveAddress a) m s l = record { store = refl; outcome = tt }
+accessed Push m s l = record { store = refl; outcome = refl }
+accessed Pop m s l = record { store = refl; outcome = tt }
+accessed (ReadMemory a) m s l = record { store = refl; outcome = tt }
+accessed (WriteMemory a) m s l = record { store = refl; outcome = refl }
+accessed (TestFlag f) m s l = record { store = refl; outcome = tt }
+accessed (SetFlag f b) m s l = record { store = refl; outcome = tt }
+accessed (ComputeFlags x z) m s l = record { store = refl; outcome = tt }
+accessed (ComputeSizedFlags x z) m s l = record { store = refl; outcome = tt }
+accessed (Arithmetic o z a b) m s l = record { store = refl; outcome = tt }
 
 -- what no test decides
 either : {X : Type 0} (b : Bool) (x : X) → cond b x x ≡ x
@@ -223,46 +223,52 @@ store-stays : (s : Store) (p k : ℕ) (d : List ℕ) → k ≡ writeOutcome s p 
 unfolding writeStore
 store-stays s p k d h f = rw (sym (ap (λ (j : ℕ). eqb j 0) h) ∙ f)
 
-module _ (m : MachineState) (s : Store) (k : ℕ) where
-  byte-by : (g : Access) (q : ℕ) → NumberBy m s k g
-      → byteAt (storeBy m s g) q ≡ holding (cond (eqb k 0) (byteWritten m s g q) nothing) (byteAt s q)
-  byte-by none q h = rw (either (eqb k 0) nothing)
-  byte-by (reading x n) q h = rw (either (eqb k 0) nothing)
-  byte-by (writing x d) q h = go (tested (eqb k 0))
+module _ (m : MachineState) (s : Store) (o : Outcome Value) where
+  byte-by : (g : Access) (q : ℕ) → OutcomeBy m s o g
+      → byteAt (storeBy m s g) q ≡ holding (cond (accepted o) (byteWritten m s g q) nothing) (byteAt s q)
+  byte-by none q h = rw (either (accepted o) nothing)
+  byte-by (reading x n) q h = rw (either (accepted o) nothing)
+  byte-by (writing x d) q h = go (tested (accepted o))
     where
       p : ℕ
       p = physical s (cr3 m) x
+
+      k : o .number ≡ writeOutcome s p (length d) .number
+      k = ap (λ (w : Outcome Value). w .number) h
 
       inside : (b : Bool) (v w : ℕ) → cond b v w ≡ holding (ifSo b v) w
       inside true v w = refl
       inside false v w = refl
 
-      go : (eqb k 0 ≡ true) ⊎ (eqb k 0 ≡ false)
-          → byteAt (writeStore s p d) q ≡ holding (cond (eqb k 0) (byteWritten m s (writing x d) q) nothing) (byteAt s q)
+      go : (accepted o ≡ true) ⊎ (accepted o ≡ false)
+          → byteAt (writeStore s p d) q ≡ holding (cond (accepted o) (byteWritten m s (writing x d) q) nothing) (byteAt s q)
       go (inl t) =
-          let e = write-accepted s p (length d) (sym h ∙ eqb-true k 0 t) in
+          let e = write-accepted s p (length d) (sym k ∙ eqb-true (o .number) 0 t) in
           rw t (law-byte s p d e q ∙ inside (leb p q && ltb q (p + length d)) (getD d (q - p) 0) (byteAt s q))
-      go (inr f) = rw f (ap (λ (u : Store). byteAt u q) (store-stays s p k d h f))
+      go (inr f) = rw f (ap (λ (u : Store). byteAt u q) (store-stays s p (o .number) d k f))
 
-  count-by : (g : Access) → NumberBy m s k g → storeBy m s g .used ≡ s .used + cond (eqb k 0) (slotsFor m s g) 0
-  count-by none h = rw (either {X = ℕ} (eqb k 0) 0) (omega arith)
-  count-by (reading x n) h = rw (either {X = ℕ} (eqb k 0) 0) (omega arith)
-  count-by (writing x d) h = go (tested (eqb k 0))
+  count-by : (g : Access) → OutcomeBy m s o g → storeBy m s g .used ≡ s .used + cond (accepted o) (slotsFor m s g) 0
+  count-by none h = rw (either {X = ℕ} (accepted o) 0) (omega arith)
+  count-by (reading x n) h = rw (either {X = ℕ} (accepted o) 0) (omega arith)
+  count-by (writing x d) h = go (tested (accepted o))
     where
       p : ℕ
       p = physical s (cr3 m) x
 
-      go : (eqb k 0 ≡ true) ⊎ (eqb k 0 ≡ false) → writeStore s p d .used ≡ s .used + cond (eqb k 0) (slotsFor m s (writing x d)) 0
-      go (inl t) = rw t (law-count s p d (write-accepted s p (length d) (sym h ∙ eqb-true k 0 t)))
-      go (inr f) = rw f (omega (arith, ap (λ (u : Store). u .used) (store-stays s p k d h f)))
+      k : o .number ≡ writeOutcome s p (length d) .number
+      k = ap (λ (w : Outcome Value). w .number) h
+
+      go : (accepted o ≡ true) ⊎ (accepted o ≡ false) → writeStore s p d .used ≡ s .used + cond (accepted o) (slotsFor m s (writing x d)) 0
+      go (inl t) = rw t (law-count s p d (write-accepted s p (length d) (sym k ∙ eqb-true (o .number) 0 t)))
+      go (inr f) = rw f (omega (arith, ap (λ (u : Store). u .used) (store-stays s p (o .number) d k f)))
 
 one-byte : (q : ℕ) (a : Act) (x : State) → byteAt (does a x .after .store) q ≡ holding (byteGiven q a x) (byteAt (x .store) q)
 unfolding does
 one-byte q a x =
     let c = accessed (a .call) (x .machine) (x .store) (a .lent) in
     ap (λ (s : Store). byteAt s q) (c .store)
-    ∙ byte-by (x .machine) (x .store) (step (a .call) (x .machine) (x .store) (a .lent) .outcome .number)
-    (accessOf (a .call) (x .machine) (a .lent)) q (c .number)
+    ∙ byte-by (x .machine) (x .store) (step (a .call) (x .machine) (x .store) (a .lent) .outcome)
+    (accessOf (a .call) (x .machine) (a .lent)) q (c .outcome)
 
 pub bytes-last : BytesLast
 bytes-last acts x q = last-is (byteGiven q) (λ y. byteAt (y .store) q) (λ y. Unit {0}) (λ a y g. tt) (λ a y g. one-byte q a y) acts x tt
@@ -273,8 +279,8 @@ unfolding does
 one-count a x =
     let c = accessed (a .call) (x .machine) (x .store) (a .lent) in
     ap (λ (s : Store). s .used) (c .store)
-    ∙ count-by (x .machine) (x .store) (step (a .call) (x .machine) (x .store) (a .lent) .outcome .number)
-    (accessOf (a .call) (x .machine) (a .lent)) (c .number)
+    ∙ count-by (x .machine) (x .store) (step (a .call) (x .machine) (x .store) (a .lent) .outcome)
+    (accessOf (a .call) (x .machine) (a .lent)) (c .outcome)
 
 pub count-rule : CountRule
 unfolding end allTaken

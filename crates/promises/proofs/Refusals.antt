@@ -10,7 +10,7 @@ use lib.Dec.{eqb, leb, ltb}
 use lib.ListN.{length, replicate, length-replicate}
 use Rattle.utils.proofs.Bools.{tested, and-left, and-right}
 use Rattle.utils.specs.Bytes.{toBytes}
-use Rattle.utils.specs.Outcome.{Outcome, gives, refuses}
+use Rattle.utils.specs.Outcome.{Outcome, gives, refuses, refusesWith}
 use Rattle.instruction_set.specs.Sizes.{bytesOf}
 use Rattle.instruction_set.specs.declared.ArgumentSize.{ArgumentSize}
 use Rattle.instruction_set.specs.declared.ArgumentSize.the-variants.{Bit64}
@@ -19,7 +19,7 @@ use Rattle.instruction_set.specs.declared.InstructionArgument.the-variants as a
 use Rattle.instruction_set.specs.declared.SomeRegister.the-variants as reg
 use Rattle.instruction_set.specs.declared.SomeScale.the-variants as by
 use Rattle.mmu.specs.Calls.{readOutcome, writeOutcome}
-use Rattle.store.specs.Store.{Store, sound, live, unused, touched, absentOf}
+use Rattle.store.specs.Store.{Store, sound, live, unused, touched, absentOf, slotsLacking}
 use Rattle.walk.specs.Walk.{physical}
 use Rattle.machine_state.specs.Address.{addressOf}
 use Rattle.machine_state.specs.Answers.{Value}
@@ -61,7 +61,7 @@ write-number s p n =
     (go (sound s) (ltb 4096 n) (ltb (unused s) (absentOf (live s) (touched p n))))
   where
     go : (a b c : Bool)
-        → cond a (cond (not b) (cond (not c) (gives {X = ℕ} []) (refuses 6)) (refuses 5)) (refuses 4) .number
+        → cond a (cond (not b) (cond (not c) (gives []) (refusesWith 6 (slotsLacking s p n ∷ []))) (refuses 5)) (refuses 4) .number
         ≡ cond (not a) 4 (cond b 5 (cond c 6 0))
     go true true c = refl
     go true false true = refl

@@ -1,32 +1,9 @@
-// Refusals and events as numbers: refusals by 01's table.
+// Events as numbers, and the refusals of an access of arguments by 01's table.
 use machine_state::Event;
 use numbers::register_number;
 ghost use mathlib.Core.Path.{_≡_};
 ghost use Rattle.instruction_set.specs.Arguments.{numberOf as argumentsNumber};
-ghost use Rattle.mmu.specs.Calls.{numberOf as memoryNumber};
-ghost use Rattle.machine_state.specs.Answers.{numberOf as refusalNumber};
 ghost use Rattle.records.specs.Events.{eventKind, eventRegister, eventValue};
-
-fn memory_refusal(why: mmu::Refusal) -> u64
-    ensures { λ n. ⌜ n ≡ memoryNumber why ⌝ }
-{
-    match why {
-        mmu::Refusal::BadStore => 4,
-        mmu::Refusal::TooLong => 5,
-        mmu::Refusal::NoRoom => 6,
-    }
-}
-
-pub fn refusal(why: machine_state::Refusal) -> u64
-    ensures { λ n. ⌜ n ≡ refusalNumber why ⌝ }
-{
-    match why {
-        machine_state::Refusal::NotAnAddress => 1,
-        machine_state::Refusal::IntoImmediate => 2,
-        machine_state::Refusal::NoScale => 3,
-        machine_state::Refusal::Memory(deeper) => memory_refusal(deeper),
-    }
-}
 
 pub fn arguments_refusal(why: instruction_set::Refusal) -> u64
     ensures { λ n. ⌜ n ≡ argumentsNumber why ⌝ }

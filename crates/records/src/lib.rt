@@ -16,7 +16,6 @@ mod answers; // answers.rt: from operands and replies to words
 pub use answers::encode;
 pub use answers::operand_words;
 pub use codes::arguments_refusal;
-pub use codes::refusal;
 pub use items::SomeArguments;
 pub use items::SomeCall;
 pub use items::SomeEvent;

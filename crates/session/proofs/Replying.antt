@@ -1,13 +1,20 @@
--- Replies: what a truth is as a byte, what `Put` says of bytes that are given, a text, and no record. By cases. Assumes nothing.
+-- Replies: what a truth is as a byte, what a refusal says, what `Put` says of bytes that are given, a text, and no record. By cases.
+-- Assumes nothing.
 use mathlib.Core.Bool.{Bool, true, false, not, cond}
-use mathlib.Core.List.{List, []}
+use mathlib.Core.List.{List, [], _∷_}
 use mathlib.Core.Path.{_≡_, refl, sym, ap, _∙_}
 use Prim.Native.Nat.{ℕ}
-use lib.ListN.{length}
+use lib.ListN.{length, getD}
 use mir.Val.{boolByte}
 use borrow.Author.Tests.{not-true, not-false}
-use Rattle.utils.specs.Outcome.{Outcome, gives}
+use native.Mathlib.Omega.{arith}
+use Rattle.utils.specs.Outcome.{Outcome, gives, refuses, refusesWith}
+use Rattle.mmu.specs.declared.Refusal.the-variants.{BadStore, TooLong, NoRoom}
+use Rattle.machine_state.specs.Answers.{word, numberOf, saidBy, outcomeOf}
 use Rattle.machine_state.specs.Memory.{passed}
+use Rattle.machine_state.specs.declared.Answer.the-variants.{Refused}
+use Rattle.machine_state.specs.declared.Refusal.{Refusal}
+use Rattle.machine_state.specs.declared.Refusal.the-variants.{NotAnAddress, IntoImmediate, NoScale, Memory}
 use Rattle.text.specs.Answers.{Told, Said}
 use Rattle.runs.specs.Runs.{Put}
 use Rattle.records.specs.declared.Reply.{Reply}
@@ -17,6 +24,23 @@ use Rattle.session.specs.Texts.{Texts, asks}
 pub bool-byte : (b : Bool) → boolByte b ≡ cond b 1 0
 bool-byte true = refl
 bool-byte false = refl
+
+-- 6 says how many slots lack, and the others nothing
+pub six-says : (r : Refusal) → numberOf r ≡ 6 → refusesWith 6 (word (getD (saidBy r) 0 0) ∷ []) ≡ outcomeOf (Refused r)
+six-says NotAnAddress e = absurd (omega arith)
+six-says IntoImmediate e = absurd (omega arith)
+six-says NoScale e = absurd (omega arith)
+six-says (Memory BadStore) e = absurd (omega arith)
+six-says (Memory TooLong) e = absurd (omega arith)
+six-says (Memory (NoRoom k)) e = refl
+
+pub others-say-nothing : (r : Refusal) → (numberOf r ≡ 6 → ⊥) → refuses (numberOf r) ≡ outcomeOf (Refused r)
+others-say-nothing NotAnAddress h = refl
+others-say-nothing IntoImmediate h = refl
+others-say-nothing NoScale h = refl
+others-say-nothing (Memory BadStore) h = refl
+others-say-nothing (Memory TooLong) h = refl
+others-say-nothing (Memory (NoRoom k)) h = absurd (h refl)
 
 -- bytes are put where there is room for them, and not where there is none
 pub given-none : {ok b : Bool} {g at n : ℕ} {d d′ : List ℕ} {f : ℕ → ℕ} {r : Reply} → Put ok d at f n d′ b → not b ≡ true → r ≡ noReply

@@ -1,10 +1,12 @@
 // What an answer says, in numbers (docs/FORMAT.md, "An answer").
 use machine_state::Answer;
+use machine_state::Refusal;
 use records::Reply;
 ghost use mathlib.Core.Path.{_≡_};
-ghost use Rattle.utils.specs.Outcome.{gives, refuses};
+ghost use Rattle.utils.specs.Outcome.{gives, refuses, refusesWith};
 ghost use mathlib.Core.List.{[], _∷_};
 ghost use Rattle.machine_state.specs.Answers.{outcomeOf, word, truth as truthful};
+ghost use Rattle.machine_state.specs.declared.Answer.the-variants.{Refused};
 ghost use Rattle.session.specs.Replies.{replyOf, noReply};
 
 // The answer to what is no record.
@@ -57,6 +59,30 @@ pub(crate) fn refused(refusal: u64, given: usize) -> Reply
     }
 }
 
+// A refusal that says a number besides its own.
+fn refused_with(refusal: u64, said: u64, given: usize) -> Reply
+    ensures { λ r. ⌜ r ≡ replyOf (refusesWith refusal (word said ∷ [])) given ⌝ }
+{
+    Reply {
+        formed: true,
+        refusal,
+        shape: 1,
+        value: said,
+        given,
+    }
+}
+
+// 6 says how many slots lack, the others nothing.
+fn refused_for(why: Refusal, given: usize) -> Reply
+    ensures { λ r. ⌜ r ≡ replyOf (outcomeOf (Refused why)) given ⌝ }
+{
+    let number = why.number();
+    if number == 6 {
+        return refused_with(6, why.lacking() as u64, given);
+    }
+    refused(number, given)
+}
+
 fn truth(truth: bool, given: usize) -> Reply
     ensures { λ r. ⌜ r ≡ replyOf (gives (truthful truth ∷ [])) given ⌝ }
 {
@@ -76,6 +102,6 @@ pub(crate) fn reply_of(answer: Answer, given: usize) -> Reply
         Answer::Done => gave(given),
         Answer::Value(v) => value(v, given),
         Answer::Truth(b) => truth(b, given),
-        Answer::Refused(why) => refused(records::refusal(why), given),
+        Answer::Refused(why) => refused_for(why, given),
     }
 }

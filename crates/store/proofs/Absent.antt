@@ -7,6 +7,7 @@ use native.Mathlib.Omega.{arith}
 use lib.Dec.{leb}
 use borrow.Author.Tests.{leb-true, le-leb, lt-leb}
 use Rattle.store.specs.Store.{foundIn, slotOf, lack, pagesFrom, touched, absentOf}
+use Rattle.store.specs.declared.Found.{Found}
 use Rattle.store.specs.declared.Found.the-variants.{At, Nothing}
 
 -- ---- bytes that lie in one page that has a slot
@@ -32,6 +33,21 @@ pub present-none : (l : List ℕ) (p n i : ℕ) → foundIn l (p / 4096) ≡ At 
 unfolding touched pagesFrom absentOf
 present-none l p zero i e h = refl
 present-none l p (suc m) i e h = let q : (p + m) / 4096 - p / 4096 ≡ 0 = omega arith in rw (q, e)
+
+-- ---- no more pages are absent than bytes are touched
+absent-within : (l : List ℕ) (g k : ℕ) → absentOf l (pagesFrom g k) ≤ k
+unfolding pagesFrom absentOf
+absent-within l g zero = omega arith
+absent-within l g (suc k) = go (foundIn l g) (absent-within l (g + 1) k)
+  where
+    go : (f : Found) → absentOf l (pagesFrom (g + 1) k) ≤ k → lack f + absentOf l (pagesFrom (g + 1) k) ≤ suc k
+    go (At i) h = omega arith
+    go Nothing h = omega arith
+
+pub absent-at-most : (l : List ℕ) (p n : ℕ) → absentOf l (touched p n) ≤ n
+unfolding touched
+absent-at-most l p zero = unfold absentOf in omega arith
+absent-at-most l p (suc m) = omega (arith, absent-within l (p / 4096) (suc ((p + m) / 4096 - p / 4096)))
 
 -- ---- the count of absent pages
 pub touched-pages : (p n : ℕ) → (n ≡ 0 → ⊥) → touched p n ≡ pagesFrom (p / 4096) ((n - 1) / 4096 + ((n - 1) % 4096 + p % 4096) / 4096 + 1)

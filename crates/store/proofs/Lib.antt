@@ -5,4 +5,5 @@ pub mod Read
 pub mod Slot
 pub mod Growth
 pub mod View
+pub mod Grown
 pub mod Parts

@@ -1,7 +1,7 @@
 -- The store of document 01 as a value: its bytes by physical address, and what writing bytes makes of it. Sentences in quotes are 01's,
 -- "Addresses, pages, walk".
 use mathlib.Core.Bool.{Bool, true, false, cond, _&&_}
-use mathlib.Core.List.{List, [], _∷_}
+use mathlib.Core.List.{List, [], _∷_, _++_}
 use Prim.Native.Nat.{ℕ, zero, suc, _+_, _*_, _-_, _/_, _%_}
 use lib.Dec.{ltb, leb, eqb}
 use lib.ListN.{length, getD, set, take}
@@ -28,6 +28,10 @@ live s = take (s .used) (s .dir)
 
 abbrev pub unused : Store → ℕ
 unused s = length (s .dir) - s .used
+
+-- a store with more slots behind those of s, which hold the numbers ds and the bytes bs and are not in use
+abbrev pub withSlots : Store → List ℕ → List ℕ → Store
+withSlots s ds bs = storeOf (s .dir ++ ds) (s .bytes ++ bs) (s .used)
 
 -- "The search of the directory stops at the first slot in use that holds the number": the place of the first g in l, or l's length if
 -- there is none
@@ -108,6 +112,10 @@ absentOf l (g ∷ gs) = lack (foundIn l g) + absentOf l gs
 -- n bytes from physical p on find an unused slot for each absent page that they touch: 01's refusal 6, turned round
 abbrev pub slotsSuffice : Store → ℕ → ℕ → Bool
 slotsSuffice s p n = leb (absentOf (live s) (touched p n)) (unused s)
+
+-- how many slots they lack: "absent pages touched minus unused slots" (02, No. 5); 0 where the slots suffice
+abbrev pub slotsLacking : Store → ℕ → ℕ → ℕ
+slotsLacking s p n = absentOf (live s) (touched p n) - unused s
 
 -- how many of the bytes that are left of an access lie in the page it has reached, from byte off on: to the page's end, or all of them
 unfoldable pub partLength : ℕ → ℕ → ℕ

@@ -13,7 +13,7 @@ pub record Outcome (X : Type 0) : Type 0 where
 abbrev pub gives : {X : Type 0} → List X → Outcome X
 gives vs = record { number = 0; values = vs }
 
--- a refusal yields its number, which is not 0, and what it says besides: 13 its place, the others nothing
+-- a refusal yields its number, which is not 0, and what it says besides: 6 how many slots lack and 13 its place (02), the others nothing
 abbrev pub refusesWith : {X : Type 0} → ℕ → List X → Outcome X
 refusesWith n vs = record { number = n; values = vs }
 

@@ -1,10 +1,10 @@
--- What a write of bytes at a physical address leaves: all of them written, or nothing.
+-- What a write of bytes at a physical address leaves: all of them written, or nothing, and then how many slots lack.
 use mathlib.Core.Path.{_≡_}
 use mathlib.Core.Bool.{Bool, cond, _&&_}
 use mathlib.Core.List.{List}
 use Prim.Native.Nat.{ℕ}
 use lib.ListN.{length, getD}
-use Rattle.store.specs.Store.{Store, sound, slotsSuffice, written}
+use Rattle.store.specs.Store.{Store, sound, slotsSuffice, slotsLacking, written}
 
 abbrev pub byteOf : List ℕ → ℕ → ℕ
 byteOf d k = getD d k 0
@@ -13,7 +13,12 @@ byteOf d k = getD d k 0
 unfoldable pub hasRoom : Store → ℕ → ℕ → Bool
 hasRoom s p n = sound s && slotsSuffice s p n
 
+-- how many slots lack for them; what is no store is not counted
+unfoldable pub slotsShort : Store → ℕ → ℕ → ℕ
+slotsShort s p n = cond (sound s) (slotsLacking s p n) 0
+
 -- the bytes d are written at physical p where they can be, and t is the store afterwards
-pub record Stored (s t : Store) (p : ℕ) (d : List ℕ) (done : Bool) : Type 0 where
+pub record Stored (s t : Store) (p : ℕ) (d : List ℕ) (done : Bool) (lacking : ℕ) : Type 0 where
   pub told : done ≡ hasRoom s p (length d)
+  pub short : lacking ≡ slotsShort s p (length d)
   pub store : t ≡ cond (hasRoom s p (length d)) (written s p (byteOf d) (length d)) s

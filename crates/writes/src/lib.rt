@@ -1,8 +1,8 @@
 // Memory as it is written: bytes go to a physical address, page by page, and each absent page takes a slot (src/mmu.rs of the Rust). Below are
 // runs, which moves bytes, and store, which searches the directory and counts absent pages; above is mmu, whose write checks what is lent and
 // translates the address first. It carries document 01, "Addresses, pages, walk": "A write takes a slot for each absent page it touches, lowest page
-// first, at the end of the slots in use, and the slot is cleared before bytes go in", "without wrap", and the test of refusal 6. Its one public
-// function takes every input, and writes all or nothing. specs/Writes.antt says what it leaves.
+// first, at the end of the slots in use, and the slot is cleared before bytes go in", "without wrap", and the test of refusal 6; document 02, No. 5: how
+// many slots lack. Its one public function takes every input, and writes all or nothing. specs/Writes.antt says what it leaves.
 ghost use Rattle.store.specs.Store.{storeOf};
 ghost use Rattle.store.specs.Facts.{Sound};
 ghost use Rattle.writes.specs.Writes.{Stored};
@@ -15,9 +15,10 @@ use store::count_absent;
 use store::is_store;
 use store::slot_of;
 
-// Whether the bytes were written, and the slots in use afterwards.
+// Whether the bytes were written, how many slots lack where they were not, and the slots in use afterwards.
 pub struct Placed {
     pub done: bool,
+    pub lacking: usize,
     pub used: usize,
 }
 
@@ -25,35 +26,49 @@ pub struct Placed {
 // it is copied at once, for no slot is wanted: the directory is searched once.
 pub fn mem_write_phys(p: u64, data: &[u8], dir: &mut [u64], bytes: &mut [u8], used: usize) -> Placed
     ensures { λ r. ⌜ Stored (storeOf (now (dir .entry)) (now (bytes .entry)) used) (storeOf (now (dir .exit)) (now (bytes .exit)) (r .used))
-        p (now («data» .entry)) (r .done) ⌝ }
+        p (now («data» .entry)) (r .done) (r .lacking) ⌝ }
 {
     if !is_store(dir, bytes, used) {
-        return Placed { done: false, used };
+        return Placed {
+            done: false,
+            lacking: 0,
+            used,
+        };
     }
     let found = slot_of(p, data.len(), dir, used);
     match found {
         Found::At(i) => {
             let off = (p % 4096) as usize;
             runs::copy(bytes, 4096 * i + off, data, 0, data.len());
-            Placed { done: true, used }
+            Placed {
+                done: true,
+                lacking: 0,
+                used,
+            }
         }
         Found::Nothing => write_counted(p, data, dir, bytes, used),
     }
 }
 
-// The same, page by page: the absent pages are counted first.
+// The same, page by page: the absent pages are counted first, and those that find no unused slot are what lacks.
 fn write_counted(p: u64, data: &[u8], dir: &mut [u64], bytes: &mut [u8], used: usize) -> Placed
     requires { ⌜ Sound (storeOf (now dir) (now bytes) used) ⌝ }
     ensures { λ r. ⌜ Stored (storeOf (now (dir .entry)) (now (bytes .entry)) used) (storeOf (now (dir .exit)) (now (bytes .exit)) (r .used))
-        p (now («data» .entry)) (r .done) ⌝ }
+        p (now («data» .entry)) (r .done) (r .lacking) ⌝ }
 {
     let absent = count_absent(p, data.len(), dir, used);
-    if dir.len() - used < absent {
-        return Placed { done: false, used };
+    let unused = dir.len() - used;
+    if unused < absent {
+        return Placed {
+            done: false,
+            lacking: absent - unused,
+            used,
+        };
     }
     let count = write_pages(p, data, dir, bytes, used);
     Placed {
         done: true,
+        lacking: 0,
         used: count,
     }
 }

@@ -9,7 +9,9 @@ returns : tie.Need-returns
 returns c =
     let count-absent = c .before in
     let start = count-absent .before .before .before .before .before in
-    stored-full _ (start .pre) _ (start .args .«data» .now) (omega (arith, c .if1 .taken, count-absent .count-absent .ensures))
+    stored-full _ (start .pre) _ (start .args .«data» .now) _
+    (omega (arith, c .if1 .taken, count-absent .count-absent .ensures))
+    (omega (arith, count-absent .count-absent .ensures))
 
 returns-2 : tie.Need-returns-2
 returns-2 c =
@@ -23,5 +25,5 @@ returns-2 c =
 pub write-counted-spec : {M : Type 1} → statement M
 write-counted-spec =
     tie.close
-    (tie.spec (λ c κs. search needs) (λ c. search needs) (λ c. search needs) returns (λ c κs. search needs)
-    (λ c. search needs) (λ c. search needs) returns-2)
+    (tie.spec (λ c κs. search needs) (λ c. search needs) (λ c. search needs) (λ c. search needs) returns
+    (λ c κs. search needs) (λ c. search needs) (λ c. search needs) returns-2)

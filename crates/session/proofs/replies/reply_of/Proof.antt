@@ -28,15 +28,13 @@ returns-3 c =
 
 returns-4 : tie.Need-returns-4
 returns-4 c =
-    let answer3 = c .before .before .before in
+    let answer3 = c .before .before in
     let start = answer3 .before .before in
-    rw (c .before .refusal .ensures)
-    at (c .refused .ensures)
+    c .refused-for .ensures
     ∙ ap (λ (a : Answer). replyOf (outcomeOf a) (start .args .given)) (sym (answer3 .answer3 .given .1))
 
 pub reply-of-spec : {M : Type 1} → statement M
 reply-of-spec =
     tie.close
     (tie.spec (λ c. search needs) (λ c κs. search needs) (λ c. search needs) (λ c κs. search needs) (λ c. search needs)
-    (λ c κs. search needs) (λ c. search needs) (λ c κs. search needs) (λ c κs. search needs) returns returns-2 returns-3
-    returns-4)
+    (λ c κs. search needs) (λ c. search needs) (λ c κs. search needs) returns returns-2 returns-3 returns-4)
