@@ -174,7 +174,7 @@ static void by_hand(void) {
 
 int main(void) {
     static const uint64_t places[] = {0, 0x1000, 0x2000, 0x40000000, 0x40001000, 0x40200000, 0x40201000, 0xb8000, 0xfffffffffffff000};
-    static const uint64_t offsets[] = {0, 1, 2048, 4088, 4094, 4095};
+    static const uint64_t offsets[] = {0, 1, 2048, 4000, 4088, 4094, 4095};
     static const uint64_t counts[] = {0, 1, 2, 8, 9, 4095, 4096, 4097};
     for (int i = 0; i < 2 * PAGE; i++)
         data[i] = (uint8_t)(1 + i % 251);
@@ -182,7 +182,7 @@ int main(void) {
     for (int i = 0; i < 6000; i++) {
         uint64_t slots = draw(6), used = draw(8) == 0 ? draw(SLOTS + 1) : draw(slots + 1);
         start(slots, used, draw(2) * 0x1000);
-        uint64_t address = places[draw(9)] + offsets[draw(6)], count = counts[draw(8)];
+        uint64_t address = places[draw(9)] + offsets[draw(7)], count = counts[draw(8)];
         if (draw(16) == 0)
             compared(address, count, draw(2) ? PAGE * slots + 1 : PAGE * (slots + 1));
         grown(address, count);

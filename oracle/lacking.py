@@ -35,7 +35,7 @@ def write(s, kind, address, n):
 
 
 def tried(s, kind, address, n, directory, used, cr3, fill=0xEE):
-    """The call; where slots lack, with fewer more than that, and with just so many."""
+    """The call; where slots lack, again with one slot less than lack, and with just so many."""
     more = 0
     while True:
         start(s, directory, used, more, cr3, (address + n) % TOP, fill)
@@ -54,8 +54,9 @@ def calls(s, sample):
     tables = [([1, 2, 3], 3), ([3, 1, 2, 0x600], 4), ([1, 2, 3, 0x601], 4), ([2, 3, 1, 0x40200], 4), ([1, 2, 3, 0], 3), ([1, 2, 3, 9, 9], 3)]
     walked = [(0x40200005, 2), (0x40200FFF, 2), (0x40000FFF, 2), (0x40001FF8, 8), (0x40002FFC, 8), (0x40003FFF, 2), (0x401FFFFF, 2), (0x40200000, 4)]
     every = [(d, p, 0) for d in stores for p in places] + [(d, p, WALKED) for d in tables for p in walked]
+    before = every.index((tables[3], walked[0], WALKED))  # its page is there by the address, and absent by the walk
     for k, ((directory, used), (address, n), cr3) in enumerate(every):
-        if not sample or k % 13 == 0:
+        if not sample or k % 13 == 0 or k == before:
             for kind in [kinds[k % 3]] if sample else kinds:
                 tried(s, kind, address, n, directory, used, cr3)
     for _ in range(0 if sample else 4000):
