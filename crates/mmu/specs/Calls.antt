@@ -41,7 +41,8 @@ readOutcome s n = cond (sound s) (cond (leb n 4096) (gives []) (refuses 5)) (ref
 unfoldable pub readOut : Store → ℕ → ℕ → List ℕ → List ℕ
 readOut s cr3 a out = cond (accepted (readOutcome s (length out))) (readAt s (physical s cr3 a) (length out)) out
 
--- a write of n bytes at physical p: 4, then 5, then 6, "a write touches more absent pages than there are unused slots", with their number.
+-- a write of n bytes at physical p: 4, then 5, then 6, "a write touches more absent pages than there are unused slots", which says how many
+-- slots lack.
 -- "Length 0 .. still reaches memory for refusal 4": it touches no page, so 6 is never given; that no walk is done shows in no outcome
 unfoldable pub writeOutcome : Store → ℕ → ℕ → Outcome ℕ
 writeOutcome s p n =

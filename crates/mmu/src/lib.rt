@@ -2,8 +2,8 @@
 // The crate knows numbers and lent slices only: `machine_state`, above it, owns CR3 and passes it in; below it, `walk` goes from an address to a
 // physical one and reads bytes there, `writes` writes them, and `store` says what the lent slices are.
 // It carries document 01, "Addresses, pages, walk", as far as a call's order of steps and what the screen shows go, and refusals 4, 5 and 6 of
-// "Refusal numbers", and document 02, No. 5: 6 says how many slots lack. Each public call takes every input, and its contract (specs/Calls.antt) fixes the answer, the count of slots in use, what is
-// shown and every lent byte, refused or not.
+// "Refusal numbers"; document 02, No. 5: 6 says how many slots lack. Each public call takes every input, and its contract (specs/Calls.antt) fixes
+// the answer, the count of slots in use, what is shown and every lent byte, refused or not.
 ghost use mathlib.Core.Path.{_≡_};
 ghost use Prim.Native.Nat.{_≤_};
 ghost use lib.ListN.{length, getD};
