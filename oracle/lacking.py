@@ -19,9 +19,13 @@ def start(s, directory, used, more, cr3, rsp, fill):
     directory = directory + [1, 0, 0x600, 2][:more]
     s.reset(words, directory, 4096 * len(directory), used, fill)
     if cr3:
-        for i, page in enumerate(directory[:used]):
-            for at_byte, entry in TABLES.get(page, {}).items():
-                s.load(4096 * i + at_byte, struct.pack("<Q", entry))
+        load_tables(s)
+
+
+def load_tables(s):
+    for i, page in enumerate(s.m.directory[: s.m.used]):
+        for at_byte, entry in TABLES.get(page, {}).items():
+            s.load(4096 * i + at_byte, struct.pack("<Q", entry))
 
 
 def write(s, kind, address, n):

@@ -1,4 +1,4 @@
-"""What refusals.py, texts.py, report.py, carries.py and lacking.py share: records, operands, the registers of 01's table, and a small model of the machine
+"""What refusals.py, texts.py, report.py, carries.py, lacking.py and neighbours.py share: records, operands, the registers of 01's table, and a small model of the machine
 and its store. It is written from 01 and 02 and shares nothing with the Rattle code or with the Rust; arithmetic.py has the rules of 02, No. 2."""
 import struct
 
@@ -9,6 +9,7 @@ READ, WRITE, ADDRESS, PUSH, POP, READ_MEMORY, WRITE_MEMORY, TEST_FLAG, SET_FLAG,
 VIEW, RESET, LOAD, SHOW_MACHINE, SHOW_DIRECTORY, SHOW_BYTES = 20, 24, 25, 26, 27, 28
 TOP = 1 << 64
 RAX, RSP, RBP, CR3, RFLAGS = 0, 4, 5, 19, 22
+CONTROL = range(17, 22)  # CR0, CR2, CR3, CR4, CR8: writing one is an event
 NO_OPERAND = (0, 0, 0, 0, 0)
 NOT_LOOKED_AT = (7, 999, TOP - 1, 300, 5)  # names no operand: for records that have none
 PARENTS = "rax rbx rcx rdx rsp rbp rsi rdi r8 r9 r10 r11 r12 r13 r14 r15 rip cr0 cr2 cr3 cr4 cr8".split()
@@ -57,6 +58,18 @@ class Model:
     def __init__(self, words, directory, length, used, fill):
         self.words, self.directory, self.used = list(words), list(directory), used
         self.bytes = bytearray([fill]) * length
+
+    def get(self, number):
+        """A register's lanes, sign-extended; a segment has none and reads 0."""
+        _, parent, first, read, _ = REGISTERS[number]
+        return signed(self.words[parent] >> 8 * first, 8 * read) % TOP if read else 0
+
+    def put(self, number, value):
+        """Writes a register from the low bytes given. Gives the event."""
+        _, parent, first, read, rewritten = REGISTERS[number]
+        lanes = (1 << 8 * rewritten) - 1 << 8 * first
+        self.words[parent] = self.words[parent] & ~lanes | value % (1 << 8 * read) << 8 * first
+        return [1, number, value] if number in CONTROL else [0, 0, 0]
 
     def check(self, n):
         slots = len(self.directory)
@@ -111,18 +124,18 @@ class Model:
     def address(self, op):
         if op[0] != 3:
             raise Refused(1)
-        total = signed(op[4], 64) + (self.words[op[1] - 1] if op[1] else 0)
+        total = signed(op[4], 64) + (self.get(op[1] - 1) if op[1] else 0)
         if op[2]:
             if not op[3]:
                 raise Refused(3)
-            total += self.words[op[2] - 1] * (op[3] - 1)
+            total += self.get(op[2] - 1) * (op[3] - 1)
         return total % TOP
 
     def value(self, op, size):
         if op[0] == 1:
             return op[4]
         if op[0] == 2:
-            return self.words[op[1] - 1]
+            return self.get(op[1] - 1)
         n = 8 >> size
         v = int.from_bytes(self.read(self.address(op), n), "little")
         return (v if size == 3 else signed(v, 8 * n)) % TOP
@@ -173,7 +186,7 @@ class Stream:
             elif kind == WRITE and op[0] == 1:
                 raise Refused(2)
             elif kind == WRITE and op[0] == 2:
-                m.words[op[1] - 1] = a
+                event = m.put(op[1] - 1, a)
             elif kind == ADDRESS:
                 shape, value = 1, m.address(op)
             elif kind == POP:
@@ -208,7 +221,8 @@ class Stream:
             refusal, *said = why.args
             if said:
                 shape, value = 1, said[0]
-        self.put([kind, len(block), size, a, b, c, *op], block, [refusal, shape, value, *event], lent, m.used)
+        self.answer = [refusal, shape, value, *event], lent
+        self.put([kind, len(block), size, a, b, c, *op], block, *self.answer, m.used)
         self.counted += 1
         self.refused = refusal
         return value
@@ -228,10 +242,10 @@ class Stream:
     def show_machine(self):
         self.put([SHOW_MACHINE], b"", [0] * 6, struct.pack("<25Q", *self.m.words), self.m.used)
 
-    def show(self):
+    def show(self, of_each_page=24):
         m = self.m
         self.show_machine()
         self.put([SHOW_DIRECTORY], b"", [0] * 6, struct.pack("<%dQ" % len(m.directory), *m.directory), m.used)
         for where in range(0, len(m.bytes), 4096):
-            n = min(24, len(m.bytes) - where)
+            n = min(of_each_page, len(m.bytes) - where)
             self.put([SHOW_BYTES, 0, 0, where, n], b"", [0] * 6, bytes(m.bytes[where : where + n]), m.used)

@@ -1,14 +1,16 @@
 #!/usr/bin/env python3
 """refusals.py CALLS ANSWERS [sample]: appends to both files the calls that the Rust has no answer to, with the answers that 01 gives them: accesses
 of no bytes, refusals 4, 5 and 6 and their order, the page view, directories with numbers twice or past 2^52; then, by texts.py, report.py,
-readback.py, carries.py and lacking.py, refusal 7, the exposed report and refusal 12, operand text read back and refusal 13, arithmetic and the sized
-flags, and how many slots lack at refusal 6. The expected answers come from models that are written from 01 and 02 and share nothing with the Rattle
-code or with the Rust. With `sample` there are fewer of these last five, for the stored sample. Prints the number of calls."""
+readback.py, carries.py, lacking.py and neighbours.py, refusal 7, the exposed report and refusal 12, operand text read back and refusal 13, arithmetic
+and the sized flags, how many slots lack at refusal 6, and dependent calls. The expected answers come from models that are written from 01 and 02 and
+share nothing with the Rattle code or with the Rust. With `sample` there are fewer of these last six, for the stored sample. Prints the number of
+calls."""
 import sys
 
 sys.dont_write_bytecode = True
 import carries
 import lacking
+import neighbours
 import readback
 import report
 import texts
@@ -95,6 +97,7 @@ def main():
         readback.calls(s, sample)
         carries.calls(s, sample)
         lacking.calls(s, sample)
+        neighbours.calls(s, sample)
         print(s.counted)
 
 

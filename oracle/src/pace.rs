@@ -13,7 +13,7 @@ extern "C" {
     fn clock() -> i64;
 }
 
-const NAMES: [&str; 20] = [
+const NAMES: [&str; 21] = [
     "read 8 bytes, 1 page",
     "read 8 bytes, 16 pages",
     "read 8 bytes, 512 pages",
@@ -34,6 +34,7 @@ const NAMES: [&str; 20] = [
     "operand text read back",
     "state text",
     "exposed report of 64 calls",
+    "dependent or not, two calls",
 ];
 const FIRST: u64 = 0x10_0000;
 const ONE: u64 = 0x3F;
@@ -303,12 +304,13 @@ fn run(row: u64, turns: u64) -> u64 {
         16 => operands(turns),
         17 => reading::read_back(turns),
         18 => states(turns),
-        _ => report::reports(turns),
+        19 => report::reports(turns),
+        _ => report::dependences(turns),
     }
 }
 
 fn show(row: u64, turns: u64) {
-    println!("{}: {:016x}", NAMES[row.min(19) as usize], run(row, turns));
+    println!("{}: {:016x}", NAMES[row.min(20) as usize], run(row, turns));
 }
 
 #[no_mangle]
@@ -316,7 +318,7 @@ pub extern "C" fn main(_: i32, _: *const *const u8) -> i32 {
     std::panic::set_hook(Box::new(|_| {}));
     let words: Vec<u64> = std::env::args().skip(1).map(|w| w.parse().unwrap_or(0)).collect();
     if words.len() < 2 {
-        (0..20).for_each(|row| show(row, 100));
+        (0..21).for_each(|row| show(row, 100));
         return 0;
     }
     let began = unsafe { clock() };

@@ -1,4 +1,5 @@
 //! 01's report of exposed places, written plainly: the Rust has none. A place is exposed if a call reads it and no earlier call has rewritten it.
+//! And dependent calls, 02's No. 7: one rewrites a place that the other reads or rewrites, or both reach memory.
 use crate::arithmetic::Operation;
 use rust::instruction_set::Register::*;
 use rust::instruction_set::{get_register_size, ArgumentSize, Flags, InstructionArgument, Register};
@@ -137,6 +138,29 @@ fn exposed_places(calls: &[Call]) -> [bool; 182] {
     exposed
 }
 
+fn reaches_memory(call: &Call) -> bool {
+    match *call {
+        Call::ReadOperand(InstructionArgument::EffectiveAddress { .. }) | Call::WriteOperand(InstructionArgument::EffectiveAddress { .. }) => true,
+        Call::Push | Call::Pop | Call::ReadMemory | Call::WriteMemory(_) => true,
+        _ => false,
+    }
+}
+
+/// Whether a rewrites a place that b reads or rewrites.
+fn meets(a: &Call, b: &Call) -> bool {
+    let mut met = false;
+    rewrites(a, &mut |w| {
+        let mut see = |r: Range<usize>| met |= w.start.max(r.start) < w.end.min(r.end);
+        reads(b, &mut see);
+        rewrites(b, &mut see);
+    });
+    met
+}
+
+fn depends(a: &Call, b: &Call) -> bool {
+    reaches_memory(a) && reaches_memory(b) || meets(a, b) || meets(b, a)
+}
+
 fn any_call(x: u64) -> Call {
     let register = InstructionArgument::Register { register: crate::any_name(x) };
     match x / 16 % 8 {
@@ -151,18 +175,33 @@ fn any_call(x: u64) -> Call {
     }
 }
 
-pub fn reports(turns: u64) -> u64 {
+fn some_calls() -> Vec<Call> {
     let mut x = 1;
     let mut list: Vec<Call> = Vec::new();
     for _ in 0..64 {
         x = crate::mix(x, 0);
         list.push(any_call(x >> 30));
     }
+    list
+}
+
+pub fn reports(turns: u64) -> u64 {
+    let mut list = some_calls();
     let mut sum = 1u64;
     for _ in 0..turns {
         list[(sum >> 50) as usize % 64] = any_call(sum >> 30);
         let report = exposed_places(&list);
         sum = crate::mix(sum, report[(sum >> 40) as usize % 182] as u64);
+    }
+    sum
+}
+
+pub fn dependences(turns: u64) -> u64 {
+    let list = some_calls();
+    let mut sum = 1u64;
+    for _ in 0..turns {
+        let answer = depends(&any_call(sum >> 30), &list[(sum >> 50) as usize % 64]);
+        sum = crate::mix(sum, answer as u64);
     }
     sum
 }

@@ -6,13 +6,16 @@ use machine_state::MachineState;
 use operand_reading::Read;
 use records::Header;
 use records::Reply;
+use records::SomeCall;
 use session::Carried;
 
 const READ_BACK: u64 = 38;
 
+const DEPENDS: u64 = 41;
+
 // Whether a record is answered here.
 pub(crate) fn serves(kind: u64) -> bool {
-    kind == READ_BACK
+    kind == READ_BACK || kind == DEPENDS
 }
 
 // The five words of an operand that may be absent.
@@ -42,14 +45,47 @@ fn not_operand_text(place: usize) -> Reply {
     }
 }
 
-fn reply(found: Read, block: &mut [u8]) -> Reply {
+// What the operand text in the block was read as.
+fn read_back(found: Read, block: &mut [u8]) -> Reply {
     match found {
         Read::Operands(first, second) => operands(first, second, block),
         Read::NotOperandText(place) => not_operand_text(place),
     }
 }
 
-// Reads back the operand text that the block's bytes are.
+// Whether the two calls whose headers the block holds are dependent; not formed where it holds anything else.
+fn depends(length: usize, block: &[u8]) -> Reply {
+    let mut reply = Reply {
+        formed: false,
+        refusal: 0,
+        shape: 2,
+        value: 0,
+        given: 0,
+    };
+    if length != 256 {
+        return reply;
+    }
+    let first = records::decode_call(records::header_in(block, 0));
+    let second = records::decode_call(records::header_in(block, 1));
+    let SomeCall::Is(a) = first else {
+        return reply;
+    };
+    let SomeCall::Is(b) = second else {
+        return reply;
+    };
+    reply.formed = true;
+    reply.value = neighbours::depends(a, b) as u64;
+    reply
+}
+
+fn answered(machine: MachineState, used: usize, reply: Reply) -> Carried {
+    Carried {
+        reply,
+        ..session::done(machine, used)
+    }
+}
+
+// Answers a record that is served here.
 pub(crate) fn serve(
     header: Header,
     machine: MachineState,
@@ -60,10 +96,9 @@ pub(crate) fn serve(
     if block.len() < n {
         return session::malformed(machine, used);
     }
-    let found = operand_reading::read_operands(&block[..n]);
-    let reply = reply(found, block);
-    Carried {
-        reply,
-        ..session::done(machine, used)
+    if header.kind == DEPENDS {
+        return answered(machine, used, depends(n, block));
     }
+    let found = operand_reading::read_operands(&block[..n]);
+    answered(machine, used, read_back(found, block))
 }

@@ -1,4 +1,5 @@
-// The exposed report of 64 calls. Each turn puts another call into the list, and the sum takes in one place of the report.
+// The exposed report of 64 calls: each turn puts another call into the list, and the sum takes in one place of the report. And whether two calls are
+// dependent: one by the sum, the other from the list.
 use super::mix;
 use super::registers::any_name;
 use super::registers::any_operand;
@@ -72,6 +73,20 @@ pub(crate) fn reports(turns: u64) -> u64 {
         };
         let report = exposed::exposed_places(list, 64);
         sum = mix(sum, place(report, (sum >> 40) as usize % 182));
+        i += 1;
+    }
+    sum
+}
+
+pub(crate) fn dependences(turns: u64) -> u64 {
+    let list = some_calls();
+    let mut sum: u64 = 1;
+    let mut i: u64 = 0;
+    while i < turns {
+        let other = list[(sum >> 50) as usize % 64];
+        let call = other.call;
+        let answer = neighbours::depends(any_call(sum >> 30), call);
+        sum = mix(sum, answer as u64);
         i += 1;
     }
     sum

@@ -8,4 +8,5 @@ pub mod Table
 pub mod SumTable
 pub mod SizedFlags
 pub mod SlotsLacking
+pub mod Neighbours
 pub mod ReadBack

@@ -13,7 +13,7 @@ use instruction_set::SomeRegister;
 ghost use mathlib.Core.Path.{_≡_};
 ghost use Rattle.instruction_set.specs.Registers.{firstOf, readsOf as lanesRead, rewritesOf as lanesRewritten};
 ghost use Rattle.rows.specs.Rows.{flagPlace, spans, none, readSpan, rewriteSpan, partSpan, flagSpan, operandReads, addressReads};
-ghost use Rattle.rows.specs.Rows.{operandRewrites, operationReads, threeFlags, fiveFlags, readsOf, rewritesOf};
+ghost use Rattle.rows.specs.Rows.{operandRewrites, operationReads, threeFlags, fiveFlags, readsOf, rewritesOf, operandReaches, reaches};
 
 // count places from start on
 pub struct Span {
@@ -308,5 +308,49 @@ pub fn rewrites_of(call: Call) -> Spans
             first: _,
             second: _,
         } => five_flags(),
+    }
+}
+
+fn operand_reaches(argument: InstructionArgument) -> bool
+    ensures { λ r. ⌜ r ≡ operandReaches argument ⌝ }
+{
+    match argument {
+        InstructionArgument::Immediate { immediate: _ } => false,
+        InstructionArgument::Register { register: _ } => false,
+        InstructionArgument::EffectiveAddress {
+            base: _,
+            index: _,
+            scale: _,
+            displacement: _,
+        } => true,
+    }
+}
+
+// Whether a call reaches memory: by its kind, refused or not.
+pub fn reaches_memory(call: Call) -> bool
+    ensures { λ r. ⌜ r ≡ reaches call ⌝ }
+{
+    match call {
+        Call::ReadOperand { argument, size: _ } => operand_reaches(argument),
+        Call::WriteOperand {
+            argument,
+            size: _,
+            value: _,
+        } => operand_reaches(argument),
+        Call::EffectiveAddress { argument: _ } => false,
+        Call::Push => true,
+        Call::Pop => true,
+        Call::ReadMemory { address: _ } => true,
+        Call::WriteMemory { address: _ } => true,
+        Call::TestFlag { flag: _ } => false,
+        Call::SetFlag { flag: _, value: _ } => false,
+        Call::ComputeFlags { result: _, size: _ } => false,
+        Call::ComputeSizedFlags { result: _, size: _ } => false,
+        Call::Arithmetic {
+            operation: _,
+            size: _,
+            first: _,
+            second: _,
+        } => false,
     }
 }

@@ -10,7 +10,7 @@ abbrev Inv-loop : tie.InvT-loop
 Inv-loop turns dir₀ bytes₀ row₀ dir bytes row = (length dir ≡ length dir₀) × (length bytes ≡ length bytes₀)
 
 abbrev μ-loop : tie.MeasureT-loop
-μ-loop turns dir₀ bytes₀ row₀ dir bytes row = 20 - row
+μ-loop turns dir₀ bytes₀ row₀ dir bytes row = 21 - row
 
 pub show-all-spec : {M : Type 1} → statement M
 show-all-spec =

@@ -1,0 +1,2 @@
+pub mod Dependent
+pub mod Swapped

@@ -1,0 +1,78 @@
+// Independent neighbours: whether two neighbouring calls may change places. They are dependent if one rewrites a place that the other reads or
+// rewrites, or if both reach memory; this crate tests it, and proves that any other two give the same answers and leave the same machine and store in
+// either order, wherever in a list they stand. Below is rows, which has what each call reads and rewrites. Above is promises, which states it.
+// Document 02: No. 7.
+use calls::Call;
+use rows::Span;
+use rows::Spans;
+ghost use mathlib.Core.Path.{_≡_};
+ghost use Prim.Native.Nat.{_+_, _≤_, max, min};
+ghost use Rattle.rows.specs.Rows.{inSpan, inSpans, Inside};
+ghost use Rattle.neighbours.specs.Dependent.{common, dependent};
+
+fn later(x: usize, y: usize) -> usize
+    ensures { λ r. ⌜ r ≡ max x y ⌝ }
+{
+    if x < y { y } else { x }
+}
+
+fn earlier(x: usize, y: usize) -> usize
+    ensures { λ r. ⌜ r ≡ min x y ⌝ }
+{
+    if x < y { x } else { y }
+}
+
+// Whether some place stands in both spans: then the later start lies before the earlier end.
+fn spans_meet(a: Span, b: Span) -> bool
+    requires { ⌜ (a .start + a .count ≤ 182) × (b .start + b .count ≤ 182) ⌝ }
+    ensures { λ r. ⌜ r ≡ common (inSpan a) (inSpan b) ⌝ }
+{
+    let start = later(a.start, b.start);
+    let end = earlier(a.start + a.count, b.start + b.count);
+    start < end
+}
+
+// Whether some place of the span stands in the row. Most spans of most rows are empty.
+fn span_meets_row(span: Span, row: Spans) -> bool
+    requires { ⌜ (span .start + span .count ≤ 182) × Inside row ⌝ }
+    ensures { λ r. ⌜ r ≡ common (inSpan span) (inSpans row) ⌝ }
+{
+    if span.count == 0 {
+        return false;
+    }
+    let one = row.one;
+    let two = row.two;
+    let three = row.three;
+    let four = row.four;
+    spans_meet(span, one) | spans_meet(span, two) | spans_meet(span, three) | spans_meet(span, four)
+}
+
+fn rows_meet(row: Spans, other: Spans) -> bool
+    requires { ⌜ Inside row × Inside other ⌝ }
+    ensures { λ r. ⌜ r ≡ common (inSpans row) (inSpans other) ⌝ }
+{
+    let one = row.one;
+    let two = row.two;
+    let three = row.three;
+    let four = row.four;
+    span_meets_row(one, other)
+        | span_meets_row(two, other)
+        | span_meets_row(three, other)
+        | span_meets_row(four, other)
+}
+
+// Whether one of the calls rewrites a place that the other reads or rewrites, or both reach memory. If not, they may change places.
+pub fn depends(a: Call, b: Call) -> bool
+    ensures { λ r. ⌜ r ≡ dependent a b ⌝ }
+{
+    if rows::reaches_memory(a) & rows::reaches_memory(b) {
+        return true;
+    }
+    let reads = rows::reads_of(a);
+    let rewrites = rows::rewrites_of(a);
+    let other_reads = rows::reads_of(b);
+    let other_rewrites = rows::rewrites_of(b);
+    rows_meet(rewrites, other_reads)
+        | rows_meet(rewrites, other_rewrites)
+        | rows_meet(other_rewrites, reads)
+}
