@@ -1,6 +1,7 @@
-"""Dependent calls and calls that change places (02, No. 7), which the Rust does not have. Two calls are dependent by the rows of report.py: one rewrites a
-place that the other reads or rewrites, or both reach memory. Then pairs of calls are made in both orders, from equal starts and amid other calls, with
-every word and byte shown after each: by model.py independent ones must give the same answers and leave the same, and drive must say what the model says."""
+"""Dependent calls and calls that change places (02, No. 7), which the Rust does not have. Two calls are dependent by the rows of report.py: one
+rewrites a place that the other reads or rewrites, or both reach memory. Then pairs of calls are made in both orders, from equal starts and amid other
+calls, with every word and byte shown after each: by model.py independent ones must give the same answers and leave the same, and drive must say what
+the model says."""
 from arithmetic import ADD, ADD_WITH_CARRY, OPERATIONS
 from lacking import WALKED, load_tables
 from model import *
@@ -75,7 +76,7 @@ def any_start(g):
 
 
 def both_orders(s, start, before, a, b, after, of_each_page=4096):
-    """Whether all is alike but for the order: each call's answer, and every word and byte at the end (which are shown, or so many of each page)."""
+    """Whether all is alike but for the order: each call's answer, and every word and byte at the end. So many bytes of each page are shown."""
     ends = []
     for pair in (a, b), (b, a):
         s.reset(*start)
@@ -92,20 +93,23 @@ def both_orders(s, start, before, a, b, after, of_each_page=4096):
 def calls(s, sample):
     s.reset([0] * 25, [0], 4096, 0, 0xEE)
     # 02's sentence on examples that its readers agreed on
+    memory, sum_with_carry, indexed = entry(READ_MEMORY), operate(ADD_WITH_CARRY), at(0, base=RAX, index=RBP, scale=1)
     for a, b, so in [
-        (on(WRITE, "al"), on(WRITE, "ah"), False), (on(WRITE, "ax"), on(READ, "ah"), True), (entry(SET_FLAG), entry(TEST_FLAG, a=2), False),
-        (on(WRITE, "rsp"), entry(PUSH), True), (on(WRITE, "cr0"), entry(READ_MEMORY), False), (on(WRITE, "cr3"), entry(READ_MEMORY), True),
-        (entry(READ_MEMORY), entry(READ_MEMORY, a=4096), True), (operate(ADD), operate(ADD_WITH_CARRY), True), (on(READ, "rax"), on(READ, "al"), False),
-        (entry(SET_FLAG, a=4), operate(ADD_WITH_CARRY), False), (on(READ, "eax"), on(WRITE, "ah"), True), (on(WRITE, "es"), on(WRITE, "rax"), False),
-        (entry(ADDRESS, op=at(0, base=RAX)), entry(POP), False), (entry(READ, op=at(0, base=RAX)), entry(POP), True)]:
+        (on(WRITE, "al"), on(WRITE, "ah"), False), (on(WRITE, "ax"), on(READ, "ah"), True), (on(READ, "eax"), on(WRITE, "ah"), True),
+        (on(READ, "rax"), on(READ, "al"), False), (on(WRITE, "es"), on(WRITE, "rax"), False), (on(WRITE, "rsp"), entry(PUSH), True),
+        (on(WRITE, "cr0"), memory, False), (on(WRITE, "cr3"), memory, True), (memory, entry(READ_MEMORY, a=4096), True),
+        (entry(SET_FLAG), entry(TEST_FLAG, a=2), False), (entry(SET_FLAG, a=4), sum_with_carry, False), (operate(ADD), sum_with_carry, True),
+        (entry(ADDRESS, op=indexed), entry(POP), False), (entry(READ, op=indexed), entry(POP), True), (on(WRITE, "bpl"), entry(ADDRESS, op=indexed), True),
+        (on(WRITE, "cr3"), entry(READ, op=indexed), True)]:
         assert dependent(a, b) == so
         ask(s, a, b)
     for a, b in asked_of(sample):
         ask(s, a, b)
     words = [0x1111_1111_1111_1111 * (i % 15 + 1) for i in range(25)]
     words[RSP], words[CR3] = 0x2004, 0
-    for a, b in [(on(WRITE, "al"), on(WRITE, "ah")), (on(WRITE, "cr0"), entry(WRITE_MEMORY, a=0xB8000)), (entry(ADDRESS, op=at(0, base=RSP)), on(READ, "sp"))]:
-        lent = b"\x31\x32" if b[0] == WRITE_MEMORY else b""
+    on_screen, address = entry(WRITE_MEMORY, a=0xB8000), entry(ADDRESS, op=at(0, base=RSP))
+    for a, b in (on(WRITE, "al"), on(WRITE, "ah")), (on(WRITE, "cr0"), on_screen), (address, on(READ, "sp")):
+        lent = b"\x31\x32" if b is on_screen else b""
         assert both_orders(s, (words, [0xB8, 0], 8192, 1, 0xEE), [], (a, b""), (b, lent), [], 24)
     if not sample:
         drawn_pairs(s)

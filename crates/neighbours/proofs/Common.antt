@@ -2,7 +2,7 @@
 -- bound. Assumes nothing.
 use mathlib.Core.Bool.{Bool, true, false, _&&_, _||_, and-comm, and-or-distrib-left}
 use mathlib.Core.Logic.{_⊎_, inl, inr}
-use mathlib.Core.Path.{_≡_, refl, sym, ap, ap₂, _∙_}
+use mathlib.Core.Path.{_≡_, refl, ap, ap₂, _∙_}
 use Prim.Native.Nat.{ℕ, zero, suc, _<_}
 use native.Mathlib.Nat.{not-suc-le-zero}
 use native.Mathlib.Omega.{arith}

@@ -1,6 +1,6 @@
--- A machine that remembers, to show that the part aside is room for one: a key, a memory, and what was last walked to. It meets `Parted`, and
--- the pair for which the part aside was made changes places: a write of the key forgets, a release forgets where it frees something, and
--- neither looks at what is remembered. Nothing of the machine stands on this. Assumes nothing.
+-- A machine that remembers, to show that the part aside is room for one: a key, a memory, and what was last walked to. It meets `Parted`,
+-- and the pair for which the part aside was made changes places: a write of the key forgets, a release forgets where it frees something,
+-- and neither looks at what is remembered. Nothing of the machine stands on this. Assumes nothing.
 use mathlib.Core.Bool.{Bool, true, false, cond, not, _&&_, and-false, true≢false, false≢true}
 use mathlib.Core.Path.{_≡_, refl, ap}
 use Prim.Native.Nat.{ℕ, zero, suc, _+_}

@@ -11,14 +11,14 @@ use Rattle.utils.proofs.Bools.{tested, and-left, and-right, both, first-fails, 
 use Rattle.calls.specs.declared.Call.{Call}
 use Rattle.rows.specs.Exposed.{end}
 use Rattle.rows.specs.Places.{place, Sound, Act, State, does, reads, rewrites, reachesMemory, placeIn, storeIn, SoundState}
-use Rattle.rows.specs.Rows.{readsOf, rewritesOf, reaches, inSpans}
+use Rattle.rows.specs.Rows.{rewritesOf, reaches, inSpans}
 use Rattle.rows.proofs.Inside.{rewrites-inside, none-above}
 use Rattle.rows.proofs.Owed.{owed}
 use Rattle.rows.proofs.Theorem.{ends-sound}
 use Rattle.rows.proofs.Whole.{whole}
 use Rattle.neighbours.specs.Dependent.{common, touches, meets, dependent, Meets, Dependent, forth, back, memory}
 use Rattle.neighbours.specs.Swapped.{Swapped, Exchanged}
-use Rattle.neighbours.proofs.Common.{Found, some-found, found-some, some-none}
+use Rattle.neighbours.proofs.Common.{some-found, some-none}
 use Rattle.neighbours.proofs.Neighbours.{neighbours, exchanged}
 use Rattle.neighbours.proofs.Parted.{Independent, nothing-aside}
 

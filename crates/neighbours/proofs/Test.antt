@@ -2,7 +2,7 @@
 -- the earlier end; and "or" goes out of `common` on either side. Assumes nothing.
 use mathlib.Core.Bool.{Bool, true, false, _&&_, _||_, or-assoc}
 use mathlib.Core.Logic.{_⊎_, inl, inr}
-use mathlib.Core.Path.{_≡_, refl, sym, ap, ap₂, _∙_}
+use mathlib.Core.Path.{_≡_, refl, sym, _∙_}
 use Prim.Native.Nat.{ℕ, _+_, _≤_, _<_, max, min}
 use native.Mathlib.Decide.{decLt}
 use native.Mathlib.Omega.{arith}
@@ -14,8 +14,8 @@ use Rattle.rows.specs.Rows.{readsOf, rewritesOf, reaches, inSpan, inSpans}
 use Rattle.rows.specs.declared.Span.{Span}
 use Rattle.rows.specs.declared.Spans.{Spans}
 use Rattle.rows.proofs.Within.{in-low, in-high, in-yes, in-out}
-use Rattle.neighbours.specs.Dependent.{common, touches, meets, dependent}
-use Rattle.neighbours.proofs.Common.{Found, some-found, found-some, common-swap, common-or, common-four, common-none}
+use Rattle.neighbours.specs.Dependent.{common, meets, dependent}
+use Rattle.neighbours.proofs.Common.{some-found, found-some, common-swap, common-or, common-four, common-none}
 
 -- ---- span against span
 abbrev starts : Span → Span → ℕ

@@ -22,8 +22,8 @@ touches c p = inSpans (readsOf c) p || inSpans (rewritesOf c) p
 unfoldable pub meets : Call → Call → Bool
 meets c d = common (inSpans (rewritesOf c)) (touches d)
 
--- "Two neighbouring calls are dependent if one rewrites a place that the other reads or rewrites, or if both reach memory." Both reach it by
--- their kind: also two that read it, and also where one is refused
+-- "Two neighbouring calls are dependent if one rewrites a place that the other reads or rewrites, or if both reach memory." Both reach it
+-- by their kind: also two that read it, and also where one is refused
 unfoldable pub dependent : Call → Call → Bool
 dependent c d = meets c d || (meets d c || reaches c && reaches d)
 

@@ -1,6 +1,7 @@
 // Independent neighbours: whether two neighbouring calls may change places. They are dependent if one rewrites a place that the other reads or
 // rewrites, or if both reach memory; this crate tests it, and proves that any other two give the same answers and leave the same machine and store in
-// either order, wherever in a list they stand. Below is rows, which has what each call reads and rewrites. Above is promises, which states it.
+// either order, wherever in a list they stand. Below is rows, which has what each call reads and rewrites, and whether it reaches memory. Above are
+// promises, which states the theorem, and the programs that ask.
 // Document 02: No. 7.
 use calls::Call;
 use rows::Span;

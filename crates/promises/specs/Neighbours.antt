@@ -15,8 +15,8 @@ use Rattle.rows.specs.Places.{Act, State, Sound, does}
 use Rattle.neighbours.specs.Dependent.{dependent, Dependent}
 use Rattle.neighbours.specs.Swapped.{Swapped, Exchanged}
 
--- "Two neighbouring calls are dependent if one rewrites a place that the other reads or rewrites, or if both reach memory": `dependent`, the
--- contract of `neighbours::depends`, is this sentence, and it does not matter which of the two comes first
+-- "Two neighbouring calls are dependent if one rewrites a place that the other reads or rewrites, or if both reach memory": `dependent`,
+-- the contract of `neighbours::depends`, is this sentence, and it does not matter which of the two comes first
 pub record DependentMeans (c d : Call) : Type 0 where
   pub only : dependent c d ≡ true → Dependent c d
   pub where-so : Dependent c d → dependent c d ≡ true

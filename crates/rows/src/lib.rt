@@ -1,8 +1,8 @@
 // What each call reads and rewrites: the rows of the table, of 01's calls and of 02's. A place is one byte of a register or one flag; a call's row is
-// the spans of places that it reads, and of those that it rewrites. Below is calls, which says what each call does; this crate proves the rows of
-// that, and from them the theorem on forgotten readers for every list of calls. Above are exposed, which reports the places that a list takes for
-// granted, and promises, which states demand 3.
-// Document 01: "Places and calls"; document 02: No. 2, No. 4.
+// the spans of places that it reads, and of those that it rewrites, and whether it reaches memory. Below is calls, which says what each call does;
+// this crate proves the rows of that, and from them the theorem on forgotten readers for every list of calls. Above are exposed, which reports the
+// places that a list takes for granted, neighbours, which says of two calls whether they may change places, and promises, which states demand 3.
+// Document 01: "Places and calls"; document 02: No. 2, No. 4, No. 7.
 use arithmetic::Operation;
 use calls::Call;
 use instruction_set::Flags;
