@@ -116,7 +116,7 @@ def calls(s, sample):
 
 
 def drawn_pairs(s):
-    """Each amid up to five calls more."""
+    """Each amid up to four calls more."""
     g = Rng(20260107)
     independent = differing = 0
     for _ in range(6000):
