@@ -41,25 +41,20 @@ fn span_meets_row(span: Span, row: Spans) -> bool
     if span.count == 0 {
         return false;
     }
-    let one = row.one;
-    let two = row.two;
-    let three = row.three;
-    let four = row.four;
-    spans_meet(span, one) | spans_meet(span, two) | spans_meet(span, three) | spans_meet(span, four)
+    spans_meet(span, row.one)
+        | spans_meet(span, row.two)
+        | spans_meet(span, row.three)
+        | spans_meet(span, row.four)
 }
 
 fn rows_meet(row: Spans, other: Spans) -> bool
     requires { ⌜ Inside row × Inside other ⌝ }
     ensures { λ r. ⌜ r ≡ common (inSpans row) (inSpans other) ⌝ }
 {
-    let one = row.one;
-    let two = row.two;
-    let three = row.three;
-    let four = row.four;
-    span_meets_row(one, other)
-        | span_meets_row(two, other)
-        | span_meets_row(three, other)
-        | span_meets_row(four, other)
+    span_meets_row(row.one, other)
+        | span_meets_row(row.two, other)
+        | span_meets_row(row.three, other)
+        | span_meets_row(row.four, other)
 }
 
 // Whether one of the calls rewrites a place that the other reads or rewrites, or both reach memory. If not, they may change places.

@@ -9,7 +9,7 @@ returns : tie.Need-returns
 returns c =
     let span-meets-row2 = c .before .before in
     let span-meets-row = span-meets-row2 .before in
-    let start = span-meets-row .before .before .before .before .before in
+    let start = span-meets-row .before in
     rw (
       span-meets-row .span-meets-row .ensures,
       span-meets-row2 .span-meets-row2 .ensures,

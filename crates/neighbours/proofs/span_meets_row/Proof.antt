@@ -15,7 +15,7 @@ returns-2 : tie.Need-returns-2
 returns-2 c =
     let spans-meet2 = c .before .before in
     let spans-meet = spans-meet2 .before in
-    let start = spans-meet .before .before .before .before .before .before .before in
+    let start = spans-meet .before .before .before in
     rw (
       spans-meet .spans-meet .ensures,
       spans-meet2 .spans-meet2 .ensures,
