@@ -1,4 +1,4 @@
-/* Lends a machine and a store to ruonasvel_mem_write, and holds each answer, number and byte against the rules of 01 and No. 5 of 02, worked out here by
+/* Lends a machine and a store to ruonasvel_mem_write, and holds each answer, number and byte against RULES 3, 4 and 7.5, worked out here by
    the directory and the walk alone (tools/link runs it). A write that lacks slots is tried again with one slot fewer than lack, and with just so
    many. The kit has no C headers of its own but for those that tools/link writes, so printf is declared here. */
 #include "ruonasvel.h"
@@ -146,7 +146,7 @@ static void start(uint64_t slots, uint64_t used, uint64_t cr3) {
         lent.dir[i] = cr3 != 0 && i < 3 ? tables[i] : pages[draw(8)];
     for (uint64_t i = 0; i < SLOTS * PAGE; i++)
         lent.bytes[i] = i < PAGE * used && cr3 != 0 ? 0 : (uint8_t)(0x80 + i % 101);
-    if (cr3 != 0 && used >= 3) { /* 01's walk */
+    if (cr3 != 0 && used >= 3) { /* the walk of RULES 10.9 */
         lent.bytes[0] = 0x03, lent.bytes[1] = 0x20;
         lent.bytes[PAGE + 8] = 0x03, lent.bytes[PAGE + 9] = 0x30;
         lent.bytes[2 * PAGE + 8] = 0x83, lent.bytes[2 * PAGE + 10] = 0x60;
@@ -157,7 +157,7 @@ static void start(uint64_t slots, uint64_t used, uint64_t cr3) {
     machine.rflags = 0x8c5, machine.gdt = 0xfedcba9876543210, machine.idt = 0x0f1e2d3c4b5a6978;
 }
 
-/* The numbers that the request asks to see. */
+/* How many slots lack, as worked out by hand (RULES 7.5). */
 static void by_hand(void) {
     start(0, 0, 0);
     check(compared(4095, 2, 0).lacking == 2, "no slots", 4095, 2);

@@ -5,7 +5,7 @@
 #include <stdbool.h>
 #include <stdint.h>
 
-/* The parents are numbered as in 01: RAX 0, RBX, RCX, RDX, RSP, RBP, RSI, RDI, R8 to R15, RIP 16, CR0, CR2, CR3, CR4, CR8 21. */
+/* The parents by their numbers (RULES 2.2): RAX 0, RBX, RCX, RDX, RSP, RBP, RSI, RDI, R8 to R15, RIP 16, CR0, CR2, CR3, CR4, CR8 21. */
 struct ruonasvel_machine {
     uint64_t regs[22];
     uint64_t rflags;

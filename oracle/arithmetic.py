@@ -1,7 +1,7 @@
 #!/usr/bin/env python3
-"""Add, add with carry, subtract, subtract with borrow and compare, by the manual's rules over whole numbers: 02, No. 2 alone, nothing from the Rattle
-code or the Rust. Two values are cut to a width; each has a reading without sign and one with it, and the exact sums and differences of these say
-every flag. Nothing is cut before it is compared. Run as a script this checks the hand values below and goes through all bytes."""
+"""Add, add with carry, subtract, subtract with borrow and compare, by the manual's rules over whole numbers: RULES 2.12 to 2.14 alone, nothing from
+the Rattle code or the Rust. Two values are cut to a width; each has a reading without sign and one with it, and the exact sums and differences of
+these say every flag. Nothing is cut before it is compared. Run as a script this checks the hand values below and goes through all bytes."""
 
 ADD, ADD_WITH_CARRY, SUBTRACT, SUBTRACT_WITH_BORROW, COMPARE = OPERATIONS = range(5)
 READ_CARRY = (ADD_WITH_CARRY, SUBTRACT_WITH_BORROW)

@@ -1,6 +1,6 @@
-"""Arithmetic (02, No. 2), which the Rust does not have; expected is what arithmetic.py says. Each operation at each size over its edges; numbers of
-many words, a word to a call, with calls in between that leave Carry; and arithmetic drawn among all other calls. Then the flags of a result by both
-forms, of all 64 bits (01) and at the size (02, No. 4), by model.py."""
+"""Arithmetic (RULES 2.12 to 2.14), which the Rust does not have; expected is what arithmetic.py says. Each operation at each size over its edges;
+numbers of many words, a word to a call, with calls in between that leave Carry; and arithmetic drawn among all other calls. Then the flags of a
+result by both forms, of all 64 bits (RULES 2.10) and at the size (RULES 2.11), by model.py."""
 import arithmetic
 from arithmetic import ADD, ADD_WITH_CARRY, BY_HAND, CARRY, OPERATIONS, SUBTRACT, SUBTRACT_WITH_BORROW
 from model import *

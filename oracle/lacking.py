@@ -1,13 +1,13 @@
-"""Refusal 6 and how many slots lack (02, No. 5); expected is what model.py says, from 01's directory rule and walk. Each kind of write, at page ends and
-at the top, on stores with few slots; with and without a walk, whose tables lie in the store. A call that lacks k slots is tried again on the same store
-with one slot fewer than that, and with just so many."""
+"""Refusal 6 and how many slots lack (RULES 7.5); expected is what model.py says, by the slots of RULES 3.9 and the walk. Each kind of write, at page
+ends and at the top, on stores with few slots; with and without a walk, whose tables lie in the store. A call that lacks k slots is tried again on the
+same store with one slot fewer than that, and with just so many."""
 import random
 import struct
 
 from model import *
 
-# 01's walk, and an entry of 0: 0x40200000 leads to 0x600000, 0x40000000 to 0, so that a page may be there by its address and absent by the walk, or
-# the other way round
+# the walk of RULES 10.9, and an entry of 0: 0x40200000 leads to 0x600000, 0x40000000 to 0, so that a page may be there by its address and absent by
+# the walk, or the other way round
 TABLES = {1: {0: 0x2003}, 2: {8: 0x3003}, 3: {0: 0, 8: 0x600083}}
 WALKED = 0x1000
 

@@ -1,5 +1,6 @@
-"""What refusals.py, texts.py, report.py, carries.py, lacking.py and neighbours.py share: records, operands, the registers of 01's table, and a small model of the machine
-and its store. It is written from 01 and 02 and shares nothing with the Rattle code or with the Rust; arithmetic.py has the rules of 02, No. 2."""
+"""What refusals.py, texts.py, report.py, carries.py, lacking.py and neighbours.py share: records, operands, the table of registers
+(RULES 2.4), and a small model of the machine and its store. It is written from the rules and shares nothing with the Rattle code or with the Rust;
+arithmetic.py has RULES 2.12 to 2.14."""
 import struct
 
 import arithmetic
@@ -16,7 +17,7 @@ PARENTS = "rax rbx rcx rdx rsp rbp rsi rdi r8 r9 r10 r11 r12 r13 r14 r15 rip cr0
 
 
 def named(names, parents, suffix, first, read, rewritten):
-    """Rows of 01's table: name, parent, first lane, lanes read, lanes rewritten. With a suffix, r8 to r15 have a name of the kind too."""
+    """Rows of RULES 2.4: name, parent, first lane, lanes read, lanes rewritten. With a suffix, r8 to r15 have a name of the kind too."""
     upper = PARENTS[8:16] if suffix else []
     rows = zip(names.split() + [p + suffix for p in upper], parents.split() + upper)
     return [(name, PARENTS.index(parent), first, read, rewritten) for name, parent in rows]
@@ -104,7 +105,7 @@ class Model:
         return bytes(self.byte(p + k) for k in range(n))
 
     def write(self, address, data):
-        """The event, or a refusal: 6 with the number of slots that lack (02, No. 5)."""
+        """The event, or a refusal: 6 with the number of slots that lack (RULES 7.5)."""
         self.check(len(data))
         if not data:
             return None
@@ -144,7 +145,7 @@ class Model:
         self.words[RFLAGS] = arithmetic.put(self.words[RFLAGS], flag, yes)
 
     def compute_flags(self, result, size, zero_bits):
-        """Zero is of so many low bits: all 64 whatever the size (01), or those of the size (02, No. 4)."""
+        """Zero is of so many low bits: all 64 whatever the size (RULES 2.10), or those of the size (RULES 2.11)."""
         self.put_flag(arithmetic.PARITY, arithmetic.even_ones(result))
         self.put_flag(arithmetic.ZERO, result % (1 << zero_bits) == 0)
         self.put_flag(arithmetic.SIGN, signed(result, 64 >> size) < 0)

@@ -1,4 +1,4 @@
-"""Dependent calls and calls that change places (02, No. 7), which the Rust does not have. Two calls are dependent by the rows of report.py: one
+"""Dependent calls and calls that are exchanged (RULES 8.6), which the Rust does not have. Two calls are dependent by the rows of report.py: one
 rewrites a place that the other reads or rewrites, or both reach memory. Then pairs of calls are made in both orders, from equal starts and amid other
 calls, with every word and byte shown after each: by model.py independent ones must give the same answers and leave the same, and drive must say what
 the model says."""
@@ -92,7 +92,7 @@ def both_orders(s, start, before, a, b, after, of_each_page=4096):
 
 def calls(s, sample):
     s.reset([0] * 25, [0], 4096, 0, 0xEE)
-    # 02's sentence on examples that its readers agreed on
+    # the rule's sentence on examples that its readers agreed on
     memory, sum_with_carry, indexed = entry(READ_MEMORY), operate(ADD_WITH_CARRY), at(0, base=RAX, index=RBP, scale=1)
     for a, b, so in [
         (on(WRITE, "al"), on(WRITE, "ah"), False), (on(WRITE, "ax"), on(READ, "ah"), True), (on(READ, "eax"), on(WRITE, "ah"), True),

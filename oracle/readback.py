@@ -4,7 +4,7 @@ gives. Prints how many texts there are and how many of them are read. The fixed 
   short FIRST MANY           of all texts of at most four bytes that are in use in operand text, MANY from the one numbered FIRST on
   damaged SEED FIRST MANY    MANY operand texts drawn from SEED, from the one numbered FIRST on, most of them damaged by a few edits
   printed FROM TOLD          every operand text that the Rust printed, of the calls in FROM with the answers in TOLD (`oracle random`). Apart from
-                             reading.py's answer it is asserted that the operands come back where 02 says so; a third number says how often"""
+                             reading.py's answer it is asserted that the operands come back where RULES 6.11 says so; a third number says how often"""
 import sys
 from itertools import chain, islice, product
 
@@ -160,7 +160,7 @@ def printed(calls, told):
 
 
 def comes_back(op, size):
-    """02: its immediate lies within the size without sign, and no scale stands without an index."""
+    """RULES 6.11: its immediate fits the size without sign, and it has no scale without an index."""
     return op[4] < 1 << (64 >> size) if op[0] == 1 else op[0] != 3 or op[2] or not op[3]
 
 

@@ -1,9 +1,9 @@
 #!/usr/bin/env python3
-"""Operand text read back, and the place where a text goes wrong, from 01, "Text" and 02, No. 1 alone: it shares nothing with the Rattle code or with
-the Rust. A piece is a set of texts, each with what it says. Asked about a text from a place on, it answers two things (`walk`): every place where a
-text of the piece that starts there may end, with what it says; and how far the text is, from there, a beginning of a text of the piece. What stands
-after another or beside another is tried in all ways. A text goes wrong at the end of its longest beginning that begins some operand text.
-A text is a str of the characters 0 to 255, one for each byte. Run as a script this checks the table of places below."""
+"""Operand text read back, and the offset where a text goes wrong, from RULES 6.2 to 6.6 and 6.10 to 6.12 alone: it shares nothing with the Rattle
+code or with the Rust. A piece is a set of texts, each with what it says. Asked about a text from an offset on, it answers two things (`walk`): every
+offset where a text of the piece that starts there may end, with what it says; and how far the text is, from there, a beginning of a text of the
+piece. What stands after another or beside another is tried in all ways. A text goes wrong at the end of its longest beginning that begins some
+operand text. A text is a str of the characters 0 to 255, one for each byte. Run as a script this checks the table of offsets below."""
 import sys
 from functools import lru_cache
 
@@ -94,7 +94,7 @@ class Either:
         return [way for ways, _ in walks for way in ways], max(far for _, far in walks)
 
 
-# 01, "Text". A register is told by its number, an operand by its five words (docs/FORMAT.md).
+# RULES 6.3 to 6.6. A register is told by its number, an operand by its five words (docs/FORMAT.md).
 NAME = Words({"%" + name: number for name, number in NUMBERS.items()})
 SCALE = Words({"%d" % scale: scale for scale in range(256)})
 DISPLACEMENT = Either(Row(lambda n: n, "0x", Hex(0, (1 << 31) - 1)), Row(lambda n: -n, "-0x", Hex(1, 1 << 31)))
@@ -111,7 +111,7 @@ IN_USE = sorted(set("".join(NAME.says) + "".join(SCALE.says) + "0123456789abcdef
 
 
 def readings(text):
-    """The two operands of every reading; a second that isn't there is NO_OPERAND. 02: a text has at most one."""
+    """The two operands of every reading; a second that isn't there is NO_OPERAND. A text has at most one (RULES 6.11)."""
     found = [said for end, said in TEXT.walk(text, 0)[0] if end == len(text)]
     assert len(found) < 2, text
     return found
@@ -127,7 +127,7 @@ def viable(text):
     return place(text) == len(text)
 
 
-# text and place; None where it is read
+# text and offset; None where it is read
 PLACES = [
     ("", 0), ("-0x0", 3), ("0x00", 3), ("0x80000000", 9), ("-0x80000000", None), ("-0x80000001", 10), ("$0x", 3), ("$0xFF", 3), ("$0x" + "1" * 17, 19),
     ("(%rax)", 0), ("0x8()", 4), ("0x8(%rax,%rbx)", 13), ("0x0(,%rcx,256)", 12), ("0x0(,%rcx,08)", 11), ("%r1", 3), ("%r1,", 3), ("%r16", 3),
@@ -137,7 +137,7 @@ PLACES = [
 
 
 def check():
-    """The table; and that what `viable` says of each beginning of a text agrees with the text's place."""
+    """The table; and that what `viable` says of each beginning of a text agrees with the text's offset."""
     assert len(NUMBERS) == 80 and len(IN_USE) == 31
     for text, wanted in PLACES:
         found = None if readings(text) else place(text)

@@ -1,9 +1,9 @@
 #!/usr/bin/env python3
-"""refusals.py CALLS ANSWERS [sample]: appends to both files the calls that the Rust has no answer to, with the answers that 01 gives them: accesses
-of no bytes, refusals 4, 5 and 6 and their order, the page view, directories with numbers twice or past 2^52; then, by texts.py, report.py,
+"""refusals.py CALLS ANSWERS [sample]: appends to both files the calls that the Rust has no answer to, with the answers that the rules give them:
+accesses of no bytes, refusals 4, 5 and 6 and their order, the page view, directories with numbers twice or past 2^52; then, by texts.py, report.py,
 readback.py, carries.py, lacking.py and neighbours.py, refusal 7, the exposed report and refusal 12, operand text read back and refusal 13, arithmetic
-and the sized flags, how many slots lack at refusal 6, and dependent calls. The expected answers come from models that are written from 01 and 02 and
-share nothing with the Rattle code or with the Rust. With `sample` there are fewer of these last six, for the stored sample. Prints the number of
+and the sized flags, how many slots lack at refusal 6, and dependent calls. The expected answers come from models that are written from docs/RULES.md
+and share nothing with the Rattle code or with the Rust. With `sample` there are fewer of these last six, for the stored sample. Prints the number of
 calls."""
 import sys
 
@@ -79,7 +79,7 @@ def main():
                 if where // 4096 < 3:
                     s.load(where + 4080 if where else 0, bytes(range(0x30 + where // 4096, 0x40 + where // 4096)))
             every_call(s, i in (8, 14))
-        # 01's table: one unused slot, pages 0 and 1 absent; then page 0 present
+        # RULES 10.10: one unused slot, pages 0 and 1 absent; then page 0 present
         s.reset([0] * 25, [4, 0], 8192, 1, 0xEE)
         s.call(WRITE_MEMORY, a=4095, block=b"\1\2")
         s.show()

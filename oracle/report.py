@@ -1,4 +1,4 @@
-"""The exposed report, which the Rust does not have: expected are the rows of 01, "Places and calls", and of 02, by the model below. It goes forwards,
+"""The exposed report, which the Rust does not have: expected are the rows of RULES 8.2, by the model below. It goes forwards,
 as the definition does: a place is exposed if some call reads it and no earlier call has rewritten it."""
 from arithmetic import ADD, ADD_WITH_CARRY, COMPARE, OPERATIONS, READ_CARRY, SUBTRACT_WITH_BORROW
 from model import *
@@ -65,7 +65,7 @@ def exposed(listed):
 
 
 def report(s, given, count=None):
-    """The list states `count` calls, by default as many as are given; places past those given hold push."""
+    """The list states `count` calls, by default as many as are given; behind those given stands push."""
     count = len(given) if count is None else count
     found = set() if count > MOST else exposed((given + [entry(PUSH)] * MOST)[:count])
     block = b"".join(struct.pack("<16Q", *call) for call in given)
@@ -204,7 +204,7 @@ def drawn(g, n):
 def calls(s, sample):
     s.reset([0] * 25, [0], 4096, 0, 0xEE)
     g = Rng(20260101)
-    # 01's table, then what 02, No. 2 says of Carry, and No. 4 of the sized flags
+    # the rows of RULES 8.2: those of the Rust's calls, then Carry's among sums, then the sized flags'
     examples = [
         ([on(WRITE, "ax"), on(READ, "eax")], {2, 3}),
         ([on(WRITE, "eax"), on(READ, "rax")], set()),

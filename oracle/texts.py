@@ -1,5 +1,5 @@
-"""Texts that do not fit their buffer, which the Rust has no answer to (refusal 7), and the order of 9, 8, 3, 7. The texts expected are those of 01,
-"Text", by the model below."""
+"""Texts that do not fit their buffer, which the Rust has no answer to (refusal 7), and the order of 9, 8, 3, 7. The texts expected are those of
+RULES 6, by the model below."""
 from model import *
 
 FORMATTED, ARGUMENTS, STATE, LINE, SHOWN, REGISTER = range(32, 38)

@@ -1,8 +1,8 @@
-//! Arithmetic (02, No. 2), which the Rust does not have, in two forms. `by_the_rules` is what the comparison expects: the manual's rules over whole
-//! numbers, in 128 bits. `operate` is what one would write by hand, in 64-bit words that wrap: pace measures it. Both give the answer,
-//! sign-extended (compare has none), and rflags after it. The session holds the one against the other at each call; so does
-//! `rustc --test` of this file over all bytes, edges and a million others, which nothing runs by itself. `sized_flags` is the sized form of
-//! `compute_flags` (02, No. 4), written by hand; the session holds it against the Rust's own `compute_flags` of the low bits, sign-extended.
+//! Arithmetic (RULES 2.12 to 2.14), which the Rust does not have, in two forms. `by_the_rules` is what the comparison expects: the manual's rules
+//! over whole numbers, in 128 bits. `operate` is what one would write by hand, in 64-bit words that wrap: pace measures it. Both give the answer,
+//! sign-extended (compare has none), and rflags after it. The session holds the one against the other at each call; so does `rustc --test` of this
+//! file over all bytes, edges and a million others, which nothing runs by itself. `sized_flags` is the sized form of `compute_flags` (RULES 2.11),
+//! written by hand; the session holds it against the Rust's own `compute_flags` of the low bits, sign-extended.
 #![allow(dead_code)]
 
 #[derive(Clone, Copy, PartialEq, Debug)]

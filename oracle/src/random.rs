@@ -70,7 +70,7 @@ impl Places {
     }
 }
 
-/// Plants the three entries of a walk from cr3 for one address, each where 01's rule looks for it. Tables lie anywhere: unaligned, across two
+/// Plants the three entries of a walk from cr3 for one address, each where RULES 3.12 looks for it. Tables lie anywhere: unaligned, across two
 /// pages, at the top, so that the sums wrap. The writes are physical: CR3 is 0 here.
 pub fn plant(s: &mut Session, g: &mut Rng, cr3: u64, linear: u64, target: u64) {
     let mut table = cr3;

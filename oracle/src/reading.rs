@@ -1,5 +1,5 @@
-//! Operand text read back (02, No. 1), written plainly: the Rust has no reader. One operand, or two joined by a comma, in exactly the form that is
-//! printed; else the place of the first byte that cannot continue any operand text, or the text's length where it ends too soon.
+//! Operand text read back (RULES 6.10 to 6.12), written plainly: the Rust has no reader. One operand, or two joined by a comma, in exactly the form
+//! that is printed; else the offset of the first byte with which no operand text goes on, or the text's length where it ends too soon.
 use rust::instruction_set::Register::{self, *};
 use rust::instruction_set::{ArgumentSize, InstructionArgument};
 
@@ -97,7 +97,7 @@ fn register_of(name: &[u8]) -> Option<Register> {
     })
 }
 
-/// Whether some name begins so. Only the place of a refusal asks for it.
+/// Whether some name begins so. Only the offset of a refusal asks for it.
 fn begins_name(start: &[u8]) -> bool {
     NAMES.iter().any(|name| name.as_bytes().starts_with(start))
 }
@@ -107,7 +107,7 @@ struct Cursor<'a> {
     at: usize,
 }
 
-/// A part of an operand, or the place at which it cannot go on.
+/// A part of an operand, or the offset at which it cannot go on.
 type Parsed<T> = Result<T, usize>;
 
 impl<'a> Cursor<'a> {

@@ -1,11 +1,11 @@
-//! 01's report of exposed places, written plainly: the Rust has none. A place is exposed if a call reads it and no earlier call has rewritten it.
-//! And dependent calls, 02's No. 7: one rewrites a place that the other reads or rewrites, or both reach memory.
+//! The report of exposed places (RULES 8.5), written plainly: the Rust has none. A place is exposed if a call reads it and no earlier call has
+//! rewritten it. And dependent calls (RULES 8.6): one rewrites a place that the other reads or rewrites, or both reach memory.
 use crate::arithmetic::Operation;
 use rust::instruction_set::Register::*;
 use rust::instruction_set::{get_register_size, ArgumentSize, Flags, InstructionArgument, Register};
 use std::ops::Range;
 
-/// The calls of 01's table, and of 02, No. 2 and No. 4. What a call holds besides its operand or flag reads and rewrites nothing.
+/// The tabled calls (RULES 8.2). What a call holds besides its operand or flag reads and rewrites nothing.
 #[allow(dead_code)]
 enum Call {
     ReadOperand(InstructionArgument),

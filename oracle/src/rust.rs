@@ -19,7 +19,7 @@ pub mod machine_state {
 pub mod mmu {
     include!(concat!(env!("RUST_SRC"), "/src/mmu.rs"));
 
-    // The pages that a write touches, for the directory rule: the walk is private to this module.
+    // The pages that a write touches, for the slots of RULES 3.9: the walk is private to this module.
     pub fn translate(m: &mut MachineState, address: u64) -> u64 {
         m.translate_virtual_to_physical_address(address)
     }

@@ -1,4 +1,4 @@
-//! One session: the Rust's machine, the directory that 01's rule gives, and the two streams of docs/FORMAT.md. Each call is written to the one,
+//! One session: the Rust's machine, the directory that RULES 3.9 gives, and the two streams of docs/FORMAT.md. Each call is written to the one,
 //! carried out by the Rust, and its answer written to the other. Arithmetic and the sized form of compute_flags are ours (arithmetic.rs), on the
 //! Rust's rflags.
 use crate::arithmetic::{by_the_rules, operate, sign_extended, sized_flags, OPERATIONS};
@@ -100,7 +100,7 @@ fn parents(m: &MachineState) -> [u64; 25] {
     [m.rax, m.rbx, m.rcx, m.rdx, m.rsp, m.rbp, m.rsi, m.rdi, m.r8, m.r9, m.r10, m.r11, m.r12, m.r13, m.r14, m.r15, m.rip,
      m.cr0, m.cr2, m.cr3, m.cr4, m.cr8, m.rflags, m.gdt, m.idt].map(|v| v as u64)
 }
-/// A machine from its 25 words: 22 parents in 01's order, rflags, gdt, idt.
+/// A machine from its 25 words: 22 parents in their order (RULES 2.2), rflags, gdt, idt.
 pub fn machine(w: &[u64; 25]) -> MachineState {
     let mut m = MachineState::new();
     {
@@ -171,7 +171,7 @@ fn event(line: &[u8]) -> [u64; 3] {
         assert_eq!(shown.chars().count(), 1);
         return [2, 0, shown.chars().next().unwrap() as u64];
     }
-    // CR8's line says CR5 (01)
+    // CR8's line says CR5 (RULES 6.8)
     let r = match &t[..5] { "CR0: " => CR0, "CR2: " => CR2, "CR3: " => CR3, "CR4: " => CR4, "CR5: " => CR8, _ => panic!("{}", t) };
     [1, r as u64, u64::from_str_radix(&t[5..], 16).unwrap()]
 }
@@ -251,7 +251,7 @@ impl Session {
         self.put(&h, &[], [0; 8], &bytes[from..from + n]);
     }
 
-    /// Everything: the machine, the directory by 01's rule, the Rust's pages by their bytes (the first `most`), and a slot that no page has taken.
+    /// Everything: the machine, the directory by RULES 3.9, the Rust's pages by their bytes (the first `most`), and a slot that no page has taken.
     pub fn dump(&mut self, most: usize) {
         self.show_machine();
         let mut h = [0u64; 16];
@@ -273,7 +273,7 @@ impl Session {
         }
     }
 
-    /// 01's rule: a write takes a slot for each absent page it touches, lowest first, at the end of those in use.
+    /// RULES 3.9: each absent page that a write touches takes the slot after those in use, the lowest page first.
     fn touch(&mut self, p: u64, n: u64) {
         let last = ((p as u128 + n as u128 - 1) / 4096) as u64;
         for page in p / 4096..=last {

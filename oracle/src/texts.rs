@@ -14,7 +14,7 @@ const SHOWN: u64 = 36;
 const REGISTER: u64 = 37;
 const NONE: Op = [0; 5];
 const CONTROLS: [u64; 5] = [17, 18, 19, 20, 21];
-/// 01: no text of operands is longer.
+/// RULES 6.9: no text of operands is longer.
 const LONGEST: usize = 57;
 
 /// The text of a record; an event's line is what is printed on the way, and is taken by the caller.

@@ -1,7 +1,7 @@
-// Add, add with carry, subtract, subtract with borrow and compare, of two given values at a size. Everything here goes from words to words;
-// machine_state, above, keeps rflags. Below are fields, which cuts a value to a size and puts a flag into a word, instruction_set, which names
-// sizes and flags, and utils, which extends signs.
-// Document 02: No. 2. No sum here is wider than 64 bits.
+// Add, add with carry, subtract, subtract with borrow and compare, of two given values at a size. Everything here goes from words to
+// words; machine_state, above, keeps rflags. Below are fields, which cuts a value to a size and puts a flag into a word, instruction_set,
+// which names sizes and flags, and utils, which extends signs.
+// It carries RULES 2.12 to 2.14. No sum here is wider than 64 bits.
 use instruction_set::ArgumentSize;
 use instruction_set::Flags;
 ghost use mathlib.Core.Bool.{cond, not, _&&_, _||_};
@@ -12,6 +12,7 @@ ghost use Rattle.instruction_set.specs.Sizes.{bytesOf};
 ghost use Rattle.fields.specs.FlagBits.{boolBit};
 ghost use Rattle.arithmetic.specs.Sums.{added, subtracted, carryTaken, isDifference, givesValue, workedOf, flagsOf, computedOf};
 
+// The five operations (RULES 2.12), in the order of their numbers in docs/FORMAT.md, 0 to 4.
 pub enum Operation {
     Add,
     AddWithCarry,
@@ -20,14 +21,14 @@ pub enum Operation {
     Compare,
 }
 
-// A sum or a difference at a size, with its Carry and Overflow.
+// A sum or a difference at a size, with its Carry and Overflow (RULES 2.13).
 pub struct Sum {
     pub value: u64,
     pub carry: bool,
     pub overflow: bool,
 }
 
-// rflags after an operation, and its result, sign-extended from the size.
+// rflags after an operation, and its result, sign-extended from the size (RULES 2.14).
 pub struct Computed {
     pub rflags: u64,
     pub value: u64,
@@ -90,7 +91,7 @@ fn minus(size: ArgumentSize, a: u64, b: u64, borrow: bool) -> Sum
     }
 }
 
-// The Carry that an operation takes: those with carry or borrow read it.
+// The Carry that an operation takes: those with carry or borrow read it (RULES 2.12).
 fn carry_taken(operation: Operation, carry: bool) -> bool
     ensures { λ r. ⌜ r ≡ carryTaken operation carry ⌝ }
 {
@@ -125,7 +126,7 @@ fn worked(operation: Operation, size: ArgumentSize, a: u64, b: u64, carry: bool)
     plus(size, a, b, carry)
 }
 
-// rflags with the five flags of a result; every other bit stays.
+// rflags with the five flags of a result; every other bit stays (RULES 2.14).
 fn with_flags(rflags: u64, size: ArgumentSize, sum: Sum) -> u64
     ensures { λ r. ⌜ r ≡ flagsOf rflags size sum ⌝ }
 {
@@ -136,7 +137,7 @@ fn with_flags(rflags: u64, size: ArgumentSize, sum: Sum) -> u64
     fields::with_flag(sign, Flags::Overflow, sum.overflow)
 }
 
-// Compare answers nothing.
+// Whether an operation answers a value: all but compare (RULES 2.14).
 pub fn gives_value(operation: Operation) -> bool
     ensures { λ r. ⌜ r ≡ givesValue operation ⌝ }
 {
@@ -149,7 +150,7 @@ pub fn gives_value(operation: Operation) -> bool
     }
 }
 
-// The operation on two values cut to the size.
+// The operation on two values cut to the size: rflags after it and its result (RULES 2.12 to 2.14). Never refuses.
 pub fn compute(rflags: u64, operation: Operation, size: ArgumentSize, a: u64, b: u64) -> Computed
     ensures { λ r. ⌜ r ≡ computedOf rflags operation size a b ⌝ }
 {

@@ -1,7 +1,9 @@
-// Every tabled call, of 01 and of 02, as one value, and the function that carries one out. Below is machine_state, whose methods do the work; above
-// are rows, which says which places a call reads and rewrites, and the programs that read calls from outside.
-// Document 01: "Places and calls"; document 02: No. 2, No. 4. The arguments of a call are fixed in its value; the bytes that push and write memory
-// write, and the buffer that read memory fills, are lent beside it.
+// Every tabled call as one value, and the function that carries one out. Below is machine_state, whose methods do the work; above are
+// `effects`, which says which places a call reads and rewrites, `wire_records` and `wire_session`, which read calls from outside, and the programs.
+// The arguments of a call are fixed in its value; the bytes that push and write memory write, and the buffer that read memory fills, are
+// lent beside it.
+// It carries the list of calls of RULES 8.2, without what is no tabled call, 8.7; what each does is RULES 2.9 to 2.14, 3.1, 4.1, 4.3, 5.2
+// and 5.3.
 use arithmetic::Operation;
 use instruction_set::ArgumentSize;
 use instruction_set::Flags;
@@ -13,11 +15,12 @@ use machine_state::Event;
 use machine_state::MachineState;
 ghost use mathlib.Core.Path.{_≡_};
 ghost use Rattle.store.specs.Store.{storeOf};
-ghost use Rattle.machine_state.specs.Answers.{left};
+ghost use Rattle.machine_state.specs.Answers.{resultOf};
 ghost use Rattle.machine_state.specs.Operating.{operated};
-ghost use Rattle.machine_state.specs.Steps.{finished};
+ghost use Rattle.machine_state.specs.Private.{finished};
 ghost use Rattle.calls.specs.Step.{step, addressAnswer};
 
+// A tabled call with its arguments (RULES 8.2).
 pub enum Call {
     ReadOperand {
         argument: InstructionArgument,
@@ -100,7 +103,7 @@ fn operate(
     keep(done.machine, used, answer)
 }
 
-// Carries out one call on a machine and a lent store.
+// Carries out one call on a machine and a lent store. Refuses with the lowest of 1 to 6 that holds (RULES 7.2); yields the call's event.
 pub fn perform(
     call: Call,
     lent: &mut [u8],
@@ -109,7 +112,7 @@ pub fn perform(
     bytes: &mut [u8],
     used: usize,
 ) -> Answered
-    ensures { λ r. ⌜ left r (now (dir .exit)) (now (bytes .exit)) (now (lent .exit))
+    ensures { λ r. ⌜ resultOf r (now (dir .exit)) (now (bytes .exit)) (now (lent .exit))
         ≡ step call machine (storeOf (now (dir .entry)) (now (bytes .entry)) used) (now (lent .entry)) ⌝ }
 {
     match call {

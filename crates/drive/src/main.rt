@@ -1,17 +1,21 @@
-// Calls in, answers out: reads records from standard input, carries each out and writes its answer to standard output, until the input ends
-// (docs/FORMAT.md). The machine goes from record to record by value; the store lies in arrays of main's, lent downwards. Everything but reading
-// and writing is in records and session, below, but for the few records of services.rt. tools/compare feeds this program the calls that the Rust was
-// given, and compares the answers.
+// Calls in, answers out: reads records from standard input, carries each out and writes its answer to standard output, until the input
+// ends (docs/FORMAT.md). The machine goes from record to record by value; the store lies in arrays of main's, lent downwards. Everything
+// but reading and writing is in `wire_records` and `wire_session`, below, but for the few records of services.rt. tools/compare feeds
+// this program the calls that the Rust was given, and compares the answers (RULES 7.7).
 use libc::STDERR_FILENO;
 use libc::STDIN_FILENO;
 use libc::STDOUT_FILENO;
 use machine_state::MachineState;
-use records::Header;
-use session::Carried;
+use wire_records::CallKind;
+use wire_records::Header;
+use wire_records::Kind;
+use wire_records::ShowKind;
+use wire_session::Carried;
 
 mod services; // services.rt: the records that leave the machine and the store
 
-// Where the program stands: the machine, how much of the arrays is the store, the slots in use, whether to go on, and how many records were answered.
+// Where the program stands: the machine, how much of the arrays is the store, the slots in use, whether to go on, and how many records
+// were answered.
 struct Run {
     machine: MachineState,
     slots: usize,
@@ -44,7 +48,7 @@ fn write_answer(carried: Carried, block: &[u8]) -> bool {
     let event = carried.event;
     let reply = carried.reply;
     let n = reply.given;
-    let out = records::encode(reply, event, carried.used);
+    let out = wire_records::encode(reply, event, carried.used);
     if !io::write_all(STDOUT_FILENO, &out) {
         return false;
     }
@@ -74,20 +78,44 @@ fn answer(carried: Carried, run: Run, block: &[u8]) -> Run {
     }
 }
 
-// How many of the block's bytes are lent to the record: a read and a text have a buffer of b bytes, a report all; the others the bytes that follow.
+// How many of the block's bytes are lent to the record: a read and a text have a buffer of b bytes, a call and a load what follows the
+// header, and what shows or reports all of it, for its answer.
 fn lent_length(header: Header) -> usize {
     let kind = header.kind;
     match kind {
-        6 | 32 | 33 | 34 | 35 | 36 | 37 => header.b as usize,
-        1 | 2 | 3 | 4 | 5 | 7 | 8 | 9 | 10 | 12 | 13 | 25 => header.length as usize,
+        Kind::Call(call) => call_lent(call, header),
+        Kind::Show(show) => show_lent(show, header),
+        Kind::Text(_) => header.b as usize,
+        _ => 8192,
+    }
+}
+
+fn call_lent(call: CallKind, header: Header) -> usize {
+    match call {
+        CallKind::ReadMemory => header.b as usize,
+        _ => header.length as usize,
+    }
+}
+
+fn show_lent(show: ShowKind, header: Header) -> usize {
+    match show {
+        ShowKind::Load => header.length as usize,
         _ => 8192,
     }
 }
 
 // Whether a record is lent a buffer, each byte of it the low byte of c.
-fn fills(kind: u64) -> bool {
+fn fills(kind: Kind) -> bool {
     match kind {
-        6 | 32 | 33 | 34 | 35 | 36 | 37 => true,
+        Kind::Call(call) => reads_memory(call),
+        Kind::Text(_) => true,
+        _ => false,
+    }
+}
+
+fn reads_memory(call: CallKind) -> bool {
+    match call {
+        CallKind::ReadMemory => true,
         _ => false,
     }
 }
@@ -105,15 +133,15 @@ fn carried(
     let length = run.length;
     let machine = run.machine;
     if block.len() < n {
-        return session::malformed(machine, run.used);
+        return wire_session::malformed(machine, run.used);
     }
     if dir.len() < slots {
-        return session::malformed(machine, run.used);
+        return wire_session::malformed(machine, run.used);
     }
     if bytes.len() < length {
-        return session::malformed(machine, run.used);
+        return wire_session::malformed(machine, run.used);
     }
-    session::carry_out(
+    wire_session::carry_out(
         header,
         machine,
         &mut block[..n],
@@ -123,13 +151,18 @@ fn carried(
     )
 }
 
+// A reset is lent the bytes that follow its header, and none of an earlier record's.
 fn restart(header: Header, run: Run, block: &[u8], dir: &mut [u64], bytes: &mut [u8]) -> Run {
-    let start = session::reset_to(header, block, dir, bytes);
+    let n = header.length as usize;
+    if block.len() < n {
+        return complain(b" is malformed\n", run);
+    }
+    let start = wire_session::reset_to(header, &block[..n], dir, bytes);
     if !start.formed {
         return complain(b" is malformed\n", run);
     }
     let machine = start.machine;
-    let done = session::done(machine, start.used);
+    let done = wire_session::done(machine, start.used);
     let fresh = Run {
         machine,
         slots: start.slots,
@@ -141,6 +174,13 @@ fn restart(header: Header, run: Run, block: &[u8], dir: &mut [u64], bytes: &mut 
     answer(done, fresh, block)
 }
 
+fn is_reset(kind: Kind) -> bool {
+    match kind {
+        Kind::Reset => true,
+        _ => false,
+    }
+}
+
 fn carry_out(
     header: Header,
     run: Run,
@@ -148,16 +188,17 @@ fn carry_out(
     dir: &mut [u64],
     bytes: &mut [u8],
 ) -> Run {
-    if header.kind == records::RESET {
+    let kind = header.kind;
+    if is_reset(kind) {
         return restart(header, run, block, dir, bytes);
     }
-    if services::serves(header.kind) {
+    if services::serves(kind) {
         let left = services::serve(header, run.machine, run.used, block);
         return answer(left, run, block);
     }
     let n = lent_length(header);
-    if fills(header.kind) {
-        runs::fill(block, 0, n, (header.c % 256) as u8);
+    if fills(kind) {
+        byte_runs::fill(block, 0, n, (header.c % 256) as u8);
     }
     let left = carried(header, run, block, n, dir, bytes);
     answer(left, run, block)
@@ -173,7 +214,7 @@ fn one(run: Run, block: &mut [u8; 8192], dir: &mut [u64], bytes: &mut [u8]) -> R
     if got < 128 {
         return complain(b" is cut short\n", run);
     }
-    let header = records::header_in(&record, 0);
+    let header = wire_records::header_in(&record, 0);
     if !read_block(header.length as usize, block) {
         return complain(b": its block is too long or cut short\n", run);
     }

@@ -143,6 +143,7 @@ fn screen(text: &[u8], address: u64) {
     label(b" is dark\n");
 }
 
+// All the examples of this file, in order.
 pub(crate) fn all() {
     values();
     push();

@@ -76,6 +76,7 @@ fn address() {
     end();
 }
 
+// All the examples of this file, in order.
 pub(crate) fn all() {
     low_byte();
     low_half();

@@ -4,6 +4,7 @@ use machine_state::Answer;
 use machine_state::Answered;
 use machine_state::Refusal;
 
+// Text on standard output, as it stands.
 pub(crate) fn label(text: &[u8]) {
     io::write_all(STDOUT_FILENO, text);
 }
@@ -19,6 +20,7 @@ pub(crate) fn show(text: &[u8], word: u64) {
     io::print_decimal(STDOUT_FILENO, std::num::wrapping_sub_u64(0, word));
 }
 
+// A flag, after its label.
 pub(crate) fn show_flag(text: &[u8], set: bool) {
     label(text);
     if set {
@@ -28,7 +30,7 @@ pub(crate) fn show_flag(text: &[u8], set: bool) {
     label(b"clear");
 }
 
-// A refusal by 01's number; 6 says how many slots lack.
+// A refusal by its number; 6 says how many slots lack (RULES 7.5).
 fn show_refusal(why: Refusal) {
     show(b"refusal ", why.number());
     let lacking = why.lacking() as u64;
@@ -41,6 +43,7 @@ fn show_refusal(why: Refusal) {
     }
 }
 
+// What a call answers, after its label.
 pub(crate) fn show_answer(text: &[u8], answered: Answered) {
     let answer = answered.answer;
     match answer {
@@ -57,6 +60,7 @@ pub(crate) fn show_answer(text: &[u8], answered: Answered) {
     }
 }
 
+// Ends the line.
 pub(crate) fn end() {
     label(b"\n");
 }

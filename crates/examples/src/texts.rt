@@ -57,6 +57,7 @@ fn event(event: Event) {
     print(said, &out);
 }
 
+// All the examples of this file, in order.
 pub(crate) fn all() {
     let rbp = SomeRegister::Present(Register::RBP);
     let rcx = SomeRegister::Present(Register::RCX);

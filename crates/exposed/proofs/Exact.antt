@@ -9,18 +9,18 @@ use lib.ListN.{length, getD, take, replicate, length-map}
 use lib.Seq.{take-append-seam}
 use borrow.Author.Tests.{le-leb}
 use Rattle.utils.specs.Outcome.{Outcome, gives, refuses}
-use Rattle.rows.specs.Exposed.{exposed, Exposes}
-use Rattle.rows.specs.Places.{Act, reads, rewrites}
-use Rattle.rows.specs.Rows.{readsOf, rewritesOf, inSpans}
-use Rattle.rows.proofs.Theorem.{exposed-says, exposed-where}
-use Rattle.exposed.specs.Reported.{verdictOutcome, reportOutcome, Says, entryReads, entryRewrites, entryOf, reported}
+use Rattle.effects.specs.Exposed.{exposed, Exposes}
+use Rattle.effects.specs.Places.{Act, reads, rewrites}
+use Rattle.effects.specs.Rows.{readsOf, rewritesOf, inSpans}
+use Rattle.effects.proofs.Theorem.{exposed-says, exposed-where}
+use Rattle.exposed.specs.Reported.{verdictOutcome, reportAnswer, ReportAnswer, entryReads, entryRewrites, entryOf, reported}
 use Rattle.exposed.specs.declared.CallEntry.{CallEntry}
 use Rattle.exposed.specs.declared.Report.{Report}
 use Rattle.exposed.specs.declared.Verdict.{Verdict}
 use Rattle.exposed.specs.declared.Verdict.the-variants.{Listed, TooManyCalls}
 use Rattle.exposed.proofs.Marking.{getD-listed, listing-refused}
 
--- ---- "The exposed list reported for up to 64 calls is exactly this one"
+-- ---- the report of up to 64 calls is exactly the list of exposed places (RULES 8.5)
 same-exposed : (acts : List Act) (p : ℕ) → exposed entryReads entryRewrites (map entryOf acts) p ≡ exposed reads rewrites acts p
 unfolding exposed reads rewrites entryReads entryRewrites
 same-exposed [] p = refl
@@ -53,9 +53,9 @@ module _ (acts : List Act) (rest : List CallEntry) (few : length acts ≤ 64) wh
       → getD (reported (map entryOf acts ++ rest) (length acts) .places) p false ≡ true
   report-where p l e = report-exact p l ∙ exposed-where acts p e
 
--- "12: more than 64 calls in a reported list", and all no
+-- 12 where there are more than 64 calls, and all no (RULES 8.5)
 pub report-refused : (calls : List CallEntry) (n : ℕ) → 64 < n
-    → _≡_ {A = Says} record { outcome = refuses 12; places = replicate 182 false } (reported calls n)
+    → _≡_ {A = ReportAnswer} record { outcome = refuses 12; places = replicate 182 false } (reported calls n)
 report-refused calls n h = listing-refused calls n h
 
 -- ---- a verdict can be told from its outcome, so that the contract of `exposed_places` fixes the whole report
@@ -65,8 +65,8 @@ verdict-outcome TooManyCalls TooManyCalls e = refl
 verdict-outcome Listed TooManyCalls e = absurd (let n = ap (λ (o : Outcome ℕ). o .number) e in omega arith)
 verdict-outcome TooManyCalls Listed e = absurd (let n = ap (λ (o : Outcome ℕ). o .number) e in omega arith)
 
-pub report-outcome : (r q : Report) → reportOutcome r ≡ reportOutcome q → r ≡ q
+pub report-outcome : (r q : Report) → reportAnswer r ≡ reportAnswer q → r ≡ q
 report-outcome r q e =
-    let v = verdict-outcome (r .verdict) (q .verdict) (ap (λ (s : Says). s .outcome) e) in
-    let l = ap (λ (s : Says). s .places) e in
+    let v = verdict-outcome (r .verdict) (q .verdict) (ap (λ (s : ReportAnswer). s .outcome) e) in
+    let l = ap (λ (s : ReportAnswer). s .places) e in
     λ i. record { verdict = v i; places = l i }

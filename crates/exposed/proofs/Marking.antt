@@ -14,11 +14,11 @@ use lib.Seq.{ext-getD, getD-set-same, getD-set-other, drop-cons, getD-take}
 use borrow.Author.Tests.{eqb-true, eqb-false, le-leb, lt-leb}
 use Rattle.utils.proofs.Bools.{tested}
 use Rattle.utils.specs.Outcome.{gives, refuses}
-use Rattle.rows.specs.Exposed.{exposed}
-use Rattle.rows.specs.Rows.{span, readsOf, rewritesOf, inSpan, inSpans}
-use Rattle.rows.specs.declared.Spans.{Spans}
-use Rattle.rows.proofs.Within.{in-low, in-high, in-yes, in-no, in-out}
-use Rattle.exposed.specs.Reported.{listed, Says, entryReads, entryRewrites, reported, Marked}
+use Rattle.effects.specs.Exposed.{exposed}
+use Rattle.effects.specs.Rows.{span, readsOf, rewritesOf, inSpan, inSpans}
+use Rattle.effects.specs.declared.Spans.{Spans}
+use Rattle.effects.proofs.Within.{in-low, in-high, in-yes, in-no, in-out}
+use Rattle.exposed.specs.Reported.{truthsOf, ReportAnswer, entryReads, entryRewrites, reported, Marked}
 use Rattle.exposed.specs.declared.CallEntry.{CallEntry}
 
 -- ---- marking
@@ -78,28 +78,28 @@ unfolding inSpans
 mark-four s on a b c out v h i j k = mark-twice h (mark-twice i (mark-twice j k))
 
 -- ---- lists of answers
-pub length-listed : (n : ℕ) (f : ℕ → Bool) → length (listed n f) ≡ n
-unfolding listed
+pub length-listed : (n : ℕ) (f : ℕ → Bool) → length (truthsOf n f) ≡ n
+unfolding truthsOf
 length-listed zero f = refl
 length-listed (suc n) f = ap suc (length-listed n (λ k. f (suc k)))
 
-pub getD-listed : (n : ℕ) (f : ℕ → Bool) (i : ℕ) → i < n → getD (listed n f) i false ≡ f i
-unfolding listed
+pub getD-listed : (n : ℕ) (f : ℕ → Bool) (i : ℕ) → i < n → getD (truthsOf n f) i false ≡ f i
+unfolding truthsOf
 getD-listed zero f i h = absurd (not-suc-le-zero h)
 getD-listed (suc n) f zero h = refl
 getD-listed (suc n) f (suc i) h = getD-listed n (λ k. f (suc k)) i (le-of-suc-le-suc h)
 
-is-listed : (l : List Bool) (n : ℕ) (f : ℕ → Bool) → length l ≡ n → ((i : ℕ) → i < n → getD l i false ≡ f i) → l ≡ listed n f
+is-listed : (l : List Bool) (n : ℕ) (f : ℕ → Bool) → length l ≡ n → ((i : ℕ) → i < n → getD l i false ≡ f i) → l ≡ truthsOf n f
 is-listed l n f e h =
-    ext-getD false l (listed n f) (e ∙ sym (length-listed n f)) (λ i q. h i (omega arith) ∙ sym (getD-listed n f i (omega arith)))
+    ext-getD false l (truthsOf n f) (e ∙ sym (length-listed n f)) (λ i q. h i (omega arith) ∙ sym (getD-listed n f i (omega arith)))
 
 -- ---- the calls from k on are gone through: what the loop keeps
 pub record Listing (calls : List CallEntry) (n : ℕ) (on : List Bool) (k : ℕ) : Type 0 where
   pub within : k ≤ n
-  pub is : on ≡ listed 182 (exposed entryReads entryRewrites (drop k (take n calls)))
+  pub is : on ≡ truthsOf 182 (exposed entryReads entryRewrites (drop k (take n calls)))
 
 pub listing-none : (calls : List CallEntry) (n : ℕ) → Listing calls n (replicate 182 false) n
-unfolding listed exposed
+unfolding truthsOf exposed
 listing-none calls n =
     let l : length (take n calls) ≤ n = omega (arith, length-take n calls) in
     let e : drop n (take n calls) ≡ [] = drop-of-length-le (take n calls) l in
@@ -146,11 +146,11 @@ listing-more calls n on mid out k d e r w pos fits ee er ew a b l =
         ∙ ap₂ (λ (x y : Spans). inSpans x i || not (inSpans y i) && exposed entryReads entryRewrites rest i) er ew
 
 pub listing-done : (calls : List CallEntry) (n : ℕ) (on : List Bool) → n ≤ 64 → Listing calls n on 0
-    → _≡_ {A = Says} record { outcome = gives []; places = on } (reported calls n)
+    → _≡_ {A = ReportAnswer} record { outcome = gives []; places = on } (reported calls n)
 unfolding reported
 listing-done calls n on h l = simp (le-leb n 64 h) (rw (l .is) refl)
 
 pub listing-refused : (calls : List CallEntry) (n : ℕ) → 64 < n
-    → _≡_ {A = Says} record { outcome = refuses 12; places = replicate 182 false } (reported calls n)
+    → _≡_ {A = ReportAnswer} record { outcome = refuses 12; places = replicate 182 false } (reported calls n)
 unfolding reported
 listing-refused calls n h = simp (lt-leb n 64 h)

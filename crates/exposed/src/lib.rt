@@ -1,28 +1,41 @@
-// Forgotten readers: which places of the machine a list of calls takes for granted. A place, one byte of a register or one flag, is exposed if
-// some call reads it and no earlier call has rewritten it. Below is rows, which has what each call reads and rewrites and the theorem on forgotten
-// readers; this crate reports the exposed places of up to 64 calls, and proves the report to be the list that the theorem speaks of. Above are
-// promises, which states demand 3, and the programs that ask for a report.
-// Document 01: "Places and calls", and refusal 12.
+// Forgotten readers: which places of the machine a list of calls takes for granted. A place, one byte of a register or one flag, is
+// exposed if some call reads it and no earlier call has rewritten it. Below is `effects`, which has what each call reads and rewrites and
+// the theorem on forgotten readers; this crate reports the exposed places of up to 64 calls, and proves the report to be the list that
+// the theorem speaks of. Above are promises, which states demand 3, `wire_session`, and the programs that ask for a report.
+// It carries the report, RULES 8.5, with refusal 12, of what 8.4 defines.
 use calls::Call;
-use rows::Span;
-use rows::Spans;
+use effects::Span;
+use effects::Spans;
 ghost use mathlib.Core.Path.{_≡_};
 ghost use Prim.Native.Nat.{_+_, _≤_};
 ghost use lib.ListN.{length};
-ghost use Rattle.rows.specs.Rows.{span, inSpan, inSpans, Inside};
-ghost use Rattle.exposed.specs.Reported.{reportOutcome, reported, Marked};
+ghost use Rattle.effects.specs.Rows.{span, inSpan, inSpans, Inside};
+ghost use Rattle.exposed.specs.Reported.{verdictOutcome, reportAnswer, reported, Marked};
 
 // A call of a reported list.
 pub struct CallEntry {
     pub call: Call,
 }
 
+// Whether a report is given, or refused with 12 (RULES 8.5).
 pub enum Verdict {
     Listed,
     TooManyCalls,
 }
 
-// A yes or no for each of the 182 places, in place order; all no where the list is refused.
+impl Verdict {
+    // The refusal's number, or 0 where the places are listed.
+    pub fn number(self) -> u64
+        ensures { λ n. ⌜ n ≡ verdictOutcome self .number ⌝ }
+    {
+        match self {
+            Verdict::Listed => 0,
+            Verdict::TooManyCalls => 12,
+        }
+    }
+}
+
+// Of each of the 182 places, in their order, whether it is exposed; all no where the list is refused (RULES 8.5).
 pub struct Report {
     pub verdict: Verdict,
     pub places: [bool; 182],
@@ -68,10 +81,10 @@ fn mark_all(on: &mut [bool; 182], spans: Spans, value: bool)
     mark(on, four, value);
 }
 
-// The exposed places of the first count calls. It goes from the last call to the first: before a call, what the call reads is exposed, and what
-// is exposed after it and what it does not rewrite. Calls from the count on are not looked at.
+// The exposed places of the first count calls, whatever stands behind them (RULES 8.5). Refuses 12. No event.
+// From the last call to the first: what a call rewrites is no longer exposed, and then what it reads is.
 pub fn exposed_places(calls: [CallEntry; 64], count: usize) -> Report
-    ensures { λ r. ⌜ reportOutcome r ≡ reported calls count ⌝ }
+    ensures { λ r. ⌜ reportAnswer r ≡ reported calls count ⌝ }
 {
     if 64 < count {
         return Report {
@@ -85,8 +98,8 @@ pub fn exposed_places(calls: [CallEntry; 64], count: usize) -> Report
         k -= 1;
         let entry = calls[k];
         let call = entry.call;
-        let rewrites = rows::rewrites_of(call);
-        let reads = rows::reads_of(call);
+        let rewrites = effects::rewrites_of(call);
+        let reads = effects::reads_of(call);
         mark_all(&mut on, rewrites, false);
         mark_all(&mut on, reads, true);
     }

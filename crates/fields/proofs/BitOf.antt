@@ -9,7 +9,7 @@ use Rattle.utils.specs.Word.{cut, put}
 use Rattle.utils.proofs.Field.{put-exchange, put-lt}
 
 module _ (x k : ℕ) (h : k < 64) (l : x < 2 ^ 64) where
-  -- the bit at its place
+  -- the bit at its number
   bit-le : cut x k 1 * 2 ^ k ≤ x
   unfolding cut
   bit-le =

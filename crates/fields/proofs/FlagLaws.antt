@@ -8,7 +8,7 @@ use native.Mathlib.Omega.{arith}
 use lib.Dec.{eqb}
 use Rattle.utils.specs.Word.{cut, put}
 use Rattle.utils.proofs.Field.{cut-lt, put-inside, put-outside, put-lt, put-same, put-again, put-swap}
-use Rattle.instruction_set.specs.Sizes.{bitOf}
+use Rattle.instruction_set.specs.Flags.{bitOf}
 use Rattle.instruction_set.specs.declared.Flags.{Flags}
 use Rattle.instruction_set.proofs.Bounds.{bit-below}
 use Rattle.fields.specs.FlagBits.{boolBit, bitSet, flagOf, putFlag}

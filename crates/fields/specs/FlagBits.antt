@@ -1,10 +1,11 @@
--- The flags of 01, "Registers and flags", as bits of a word, and what `compute_flags` looks at in a result; the sized form of 02, No. 4.
+-- The flags as bits of a word (RULES 2.8, 2.9), what `compute_flags` looks at in a result (RULES 2.10), and its sized form (RULES 2.11).
 use mathlib.Core.Bool.{Bool, true, false}
 use Prim.Native.Nat.{ℕ, _-_, _*_, _%_, _^_}
 use lib.Count.{ones}
 use lib.Dec.{eqb}
 use Rattle.utils.specs.Word.{cut, put}
-use Rattle.instruction_set.specs.Sizes.{bytesOf, bitOf}
+use Rattle.instruction_set.specs.Flags.{bitOf}
+use Rattle.instruction_set.specs.Sizes.{bytesOf}
 use Rattle.instruction_set.specs.declared.ArgumentSize.{ArgumentSize}
 use Rattle.instruction_set.specs.declared.Flags.{Flags}
 use Rattle.instruction_set.specs.declared.Flags.the-variants.{Parity, Zero, Sign}
@@ -18,18 +19,19 @@ abbrev pub boolBit : Bool → ℕ
 boolBit true = 1
 boolBit false = 0
 
+-- whether a flag is set (RULES 2.9)
 abbrev pub flagOf : ℕ → Flags → Bool
 flagOf x f = bitSet (bitOf f) x
 
--- one bit is rewritten
+-- one bit is rewritten (RULES 2.9)
 unfoldable pub putFlag : ℕ → Flags → Bool → ℕ
 putFlag x f b = put x (bitOf f) 1 (boolBit b)
 
--- "Sign from the top bit of the size"
+-- Sign is the top bit of the size (RULES 2.10)
 abbrev pub signIn : ArgumentSize → ℕ → Bool
 signIn s x = bitSet (8 * bytesOf s - 1) x
 
--- "Parity if the low byte has an even number of ones"
+-- Parity: the ones of the low byte are even in number (RULES 2.10)
 unfoldable pub evenOnes : ℕ → Bool
 evenOnes x = eqb (ones (x % 2 ^ 8) % 2) 0
 
@@ -37,10 +39,10 @@ evenOnes x = eqb (ones (x % 2 ^ 8) % 2) 0
 abbrev pub resultFlags : ℕ → Bool → ℕ → ArgumentSize → ℕ
 resultFlags x b v s = putFlag (putFlag (putFlag x Zero b) Sign (signIn s v)) Parity (evenOnes v)
 
--- "Zero if the whole 64-bit result is 0 whatever the size"
+-- Zero where all 64 bits are 0, whatever the size (RULES 2.10)
 abbrev pub computedFlags : ℕ → ℕ → ArgumentSize → ℕ
 computedFlags x v s = resultFlags x (eqb v 0) v s
 
--- 02, No. 4: "Zero and Sign both look at the low 8, 16, 32 or 64 bits"
+-- Zero, as Sign, of the bits of the size (RULES 2.11)
 abbrev pub sizedFlags : ℕ → ℕ → ArgumentSize → ℕ
 sizedFlags x v s = resultFlags x (eqb (lowBits s v) 0) v s

@@ -1,6 +1,8 @@
-// Fields of a word: the part of its parent that a register is, and the flag that a bit of rflags is. Everything here goes from words to words;
-// machine_state, above, keeps the words. Below are instruction_set, which says where each field stands, and utils, which has the law of fields.
-// Document 01: the table of "Registers and flags", and what `compute_flags` looks at; document 02: its sized form, No. 4.
+// Fields of a word: the part of its parent that a register is, and the flag that a bit of rflags is. Everything here goes from words to
+// words; machine_state, above, keeps the words. Below are instruction_set, which says where each field stands, and utils, which has the
+// law of fields.
+// It carries what a register reads and a write leaves (RULES 2.4, 2.5), values cut to a size (1.6) and values of memory (4.2), and the
+// flags: test and set (2.9), those of a result (2.10) and its sized form (2.11).
 use instruction_set::ArgumentSize;
 use instruction_set::Flags;
 use instruction_set::Part;
@@ -9,7 +11,7 @@ ghost use Prim.Native.Nat.{_+_, _*_, _/_, _%_, _^_};
 ghost use Rattle.fields.specs.Parts.{readOf, writeOf, memoryValue, lowBits};
 ghost use Rattle.fields.specs.FlagBits.{flagOf, putFlag, signIn, evenOnes, computedFlags, sizedFlags};
 
-// The part's lanes of its parent, sign-extended.
+// The part's lanes of its parent, sign-extended (RULES 2.4); no lanes read 0.
 pub fn read_part(part: Part, x: u64) -> u64
     ensures { λ r. ⌜ r ≡ readOf part x ⌝ }
 {
@@ -23,14 +25,14 @@ pub fn read_part(part: Part, x: u64) -> u64
     }
 }
 
-// x with its low half from value. A 32-bit write does this to 0, not to what stood there (01: "upper four become 0").
+// x with its low half from value. A 32-bit write does this to 0, not to what stood there (RULES 2.4).
 fn with_low_half(x: u64, value: u64) -> u64
     ensures { λ r. ⌜ r ≡ x / 2 ^ 32 * 2 ^ 32 + value % 2 ^ 32 ⌝ }
 {
     x / 0x1_0000_0000 * 0x1_0000_0000 + value % 0x1_0000_0000
 }
 
-// The parent with the part's lanes rewritten.
+// The parent with the part's lanes rewritten from the low bytes of value (RULES 2.4, 2.5).
 pub fn write_part(part: Part, x: u64, value: u64) -> u64
     ensures { λ r. ⌜ r ≡ writeOf part x value ⌝ }
 {
@@ -44,8 +46,7 @@ pub fn write_part(part: Part, x: u64, value: u64) -> u64
     }
 }
 
-// A word's low bits as a value of memory. A byte has zeros above it, unlike an 8-bit register (01: "Bit8 zero-extends"): cut off, it is
-// extended from bit 63, which is 0.
+// A word's low bits as a value of memory (RULES 4.2): Bit64 as it is, Bit32 and Bit16 sign-extended, Bit8 with zeros above it.
 pub fn memory_value(word: u64, size: ArgumentSize) -> u64
     ensures { λ r. ⌜ r ≡ memoryValue size word ⌝ }
 {
@@ -53,11 +54,11 @@ pub fn memory_value(word: u64, size: ArgumentSize) -> u64
         ArgumentSize::Bit64 => word,
         ArgumentSize::Bit32 => utils::sign_extend(word, 32),
         ArgumentSize::Bit16 => utils::sign_extend(word, 16),
-        ArgumentSize::Bit8 => utils::sign_extend(word % 0x100, 64),
+        ArgumentSize::Bit8 => word % 0x100,
     }
 }
 
-// The value's low bits, as many as the size has.
+// The value's low bits, as many as the size has (RULES 1.6).
 pub fn cut_to(x: u64, size: ArgumentSize) -> u64
     ensures { λ r. ⌜ r ≡ lowBits size x ⌝ }
 {
@@ -69,6 +70,7 @@ pub fn cut_to(x: u64, size: ArgumentSize) -> u64
     }
 }
 
+// Whether the flag is set in x (RULES 2.9).
 pub fn test_flag(x: u64, flag: Flags) -> bool
     ensures { λ r. ⌜ r ≡ flagOf x flag ⌝ }
 {
@@ -76,7 +78,7 @@ pub fn test_flag(x: u64, flag: Flags) -> bool
     (x >> bit) % 2 == 1
 }
 
-// The flag's bit goes out of x, and the new one comes in.
+// x with the flag set or cleared and every other bit as it was (RULES 2.9): its bit goes out of x, and the new one comes in.
 pub fn with_flag(x: u64, flag: Flags, value: bool) -> u64
     ensures { λ r. ⌜ r ≡ putFlag x flag value ⌝ }
 {
@@ -88,7 +90,7 @@ pub fn with_flag(x: u64, flag: Flags, value: bool) -> u64
     others
 }
 
-// The top bit of the size.
+// The top bit of the size, which Sign is (RULES 2.10).
 pub fn sign_bit(result: u64, size: ArgumentSize) -> bool
     ensures { λ r. ⌜ r ≡ signIn size result ⌝ }
 {
@@ -96,7 +98,7 @@ pub fn sign_bit(result: u64, size: ArgumentSize) -> bool
     (result >> top) % 2 == 1
 }
 
-// Parity as the manual has it: set where the low byte has an even number of ones.
+// Parity as the manual has it: set where the low byte has an even number of ones (RULES 2.10).
 pub fn even_parity(result: u64) -> bool
     ensures { λ r. ⌜ r ≡ evenOnes result ⌝ }
 {
@@ -104,7 +106,7 @@ pub fn even_parity(result: u64) -> bool
     u64::count_ones(low_byte) % 2 == 0
 }
 
-// rflags after a result. Zero looks at all 64 bits whatever the size, as in the Rust.
+// rflags after a result (RULES 2.10). Zero looks at all 64 bits whatever the size, as in the Rust.
 pub fn computed_flags(x: u64, result: u64, size: ArgumentSize) -> u64
     ensures { λ r. ⌜ r ≡ computedFlags x result size ⌝ }
 {
@@ -113,7 +115,7 @@ pub fn computed_flags(x: u64, result: u64, size: ArgumentSize) -> u64
     with_flag(sign, Flags::Parity, even_parity(result))
 }
 
-// rflags after a result, by the manual's rule: Zero too looks at the low bits alone, as many as the size has.
+// rflags after a result, by the manual's rule (RULES 2.11): Zero too looks at the low bits alone, as many as the size has.
 pub fn sized_flags(x: u64, result: u64, size: ArgumentSize) -> u64
     ensures { λ r. ⌜ r ≡ sizedFlags x result size ⌝ }
 {

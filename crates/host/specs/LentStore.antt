@@ -1,5 +1,5 @@
--- A write of memory on a machine that is lent as its words and a store that is lent beside it, for a host that is not written in Rattle.
--- What the write does is mmu's (`writeOutcome`, `writeStore`, `shownOf`); here is how its answer reads in words.
+-- A write of memory on a machine that is lent as its words and a store that is lent beside it, for a host that is not written in Rattle
+-- (RULES 9.8). What the write does is mmu's (`writeOutcome`, `writeStore`, `shownOf`); here is how its answer reads in words.
 use mathlib.Core.List.{List}
 use mathlib.Core.Path.{_≡_}
 use Prim.Native.Nat.{ℕ}
@@ -12,7 +12,7 @@ use Rattle.mmu.specs.declared.Shown.{Shown}
 use Rattle.mmu.specs.declared.Shown.the-variants as shown
 use Rattle.host.specs.declared.WriteAnswer.{WriteAnswer}
 
--- the number, 0 where it is accepted; how many slots lack where it is 6 (02, No. 5), else 0
+-- the number, 0 where it is accepted; how many slots lack where it is 6 (RULES 7.5), else 0
 abbrev pub saysFirst : Outcome ℕ → ℕ
 saysFirst o = getD (o .values) 0 0
 

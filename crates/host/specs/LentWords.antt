@@ -1,5 +1,5 @@
--- Arithmetic (02, No. 2) and the sized flags of a result (No. 4), by number, on a machine that is lent as its words, for a host that is not
--- written in Rattle.
+-- Arithmetic (RULES 2.12 to 2.14) and the sized flags of a result (RULES 2.11), by number, on a machine that is lent as its words, for a
+-- host that is not written in Rattle (RULES 9.8).
 use mathlib.Core.Bool.{Bool, true, false, cond}
 use mathlib.Core.List.{List}
 use Prim.Native.Nat.{ℕ}
@@ -9,8 +9,8 @@ use Rattle.instruction_set.specs.declared.SomeSize.the-variants as size
 use Rattle.fields.specs.FlagBits.{sizedFlags}
 use Rattle.arithmetic.specs.Sums.{givesValue, computedOf}
 use Rattle.arithmetic.specs.declared.Operation.{Operation}
-use Rattle.numbers.specs.declared.SomeOperation.{SomeOperation}
-use Rattle.numbers.specs.declared.SomeOperation.the-variants as operation
+use Rattle.wire_numbers.specs.declared.SomeOperation.{SomeOperation}
+use Rattle.wire_numbers.specs.declared.SomeOperation.the-variants as operation
 use Rattle.host.specs.declared.ArithmeticAnswer.{ArithmeticAnswer}
 
 -- the machine's words after a call, and the call's answer

@@ -1,39 +1,42 @@
-// A host keeps one machine and lends it: a flag is set in the machine behind a reference, through the by-value call of machine_state, from Rattle
-// (`set_flag`) or from C and Rust (`ruonasvel_set_flag`); and, from C and Rust, two values are added, subtracted or compared with its rflags
-// (`ruonasvel_arithmetic`), the flags of a result are computed at its size (`ruonasvel_compute_sized_flags`), or bytes are written to a lent store,
-// which grows by as many slots as the answer says that lack (`ruonasvel_mem_write`). Those for C are declared in host/ruonasvel.h. Below are
-// instruction_set and machine_state, arithmetic, which has the operations, fields, which has the flags of a result, numbers, which names operations
-// and sizes, and mmu, which writes memory; above is only the host. tools/link links this crate to programs in C.
-// Document 01: "After the core, the host keeps one machine and lends it to set a flag"; the flags' numbers are those of "Places and calls".
-// Document 02: No. 2, No. 4, No. 5.
+// A host keeps one machine and lends it: a flag is set in the machine behind a reference, through the by-value call of machine_state,
+// from Rattle (`set_flag`) or from C and Rust (`ruonasvel_set_flag`); and, from C and Rust, two values are added, subtracted or compared
+// with its rflags (`ruonasvel_arithmetic`), the flags of a result are computed at its size (`ruonasvel_compute_sized_flags`), or bytes
+// are written to a lent store, which grows by as many slots as the answer says that lack (`ruonasvel_mem_write`). Those for C are
+// declared in host/ruonasvel.h. Below are instruction_set and machine_state, arithmetic, which has the operations, fields, which has the
+// flags of a result, `wire_numbers`, which names operations and sizes, and mmu, which writes memory; above is only the host. tools/link links
+// this crate to programs in C.
+// It carries RULES 9.8; what the calls do is RULES 2.9, 2.11, 2.12 to 2.14 and 4.1, and the numbers of flags are those of 2.8.
 use arithmetic::Operation;
 use instruction_set::Flags;
+use instruction_set::SomeFlag;
 use instruction_set::SomeSize;
 use machine_state::MachineState;
-use numbers::SomeOperation;
+use wire_numbers::SomeOperation;
 ghost use mathlib.Core.Path.{_≡_};
 ghost use lib.ListN.{getD};
 ghost use Rattle.store.specs.Store.{storeOf};
-ghost use Rattle.mmu.specs.Calls.{outcomeOf};
+ghost use Rattle.mmu.specs.Calls.{memoryOutcome};
+ghost use Rattle.instruction_set.specs.Flags.{flagAt};
 ghost use Rattle.machine_state.specs.Flagged.{setFlag};
-ghost use Rattle.numbers.specs.Numbers.{sizeAt, operationAt};
-ghost use Rattle.host.specs.Numbered.{flagAt, names, isSet, setNumbered};
+ghost use Rattle.wire_numbers.specs.Numbers.{sizeAt, operationAt};
+ghost use Rattle.host.specs.Numbered.{namesFlag, isSet, setNumbered};
 ghost use Rattle.host.specs.LentWords.{lentAfter, unnamedAnswer, namedAnswer, answerTo, operatedOn, namesSize, sizedFlagsOn};
 ghost use Rattle.host.specs.LentStore.{saysFirst, showsByte, byteShown, WroteLent};
 
+// CR3 is word 19 of the machine's 25 (RULES 2.2).
 const CR3: usize = 19;
 
-// The by-value call's event is always Quiet, so nothing of its answer is lost.
+// Sets or clears a flag of the machine that is lent (RULES 2.9, 9.8). Never refuses; the by-value call's event is always Quiet.
 pub fn set_flag(m: &mut MachineState, flag: Flags, value: bool)
     ensures { λ _. ⌜ now (m .exit) ≡ setFlag (now (m .entry)) flag value ⌝ }
 {
     *m = (*m).set_flag(flag, value).machine;
 }
 
-// The flag's number is any word; one that names no flag changes nothing and answers false. A value of 0 clears, any other sets.
+// Sets a flag by its number (RULES 2.8): 0 clears, any other value sets. Answers false, and changes nothing, where none has it.
 #[no_mangle]
 pub extern "C" fn ruonasvel_set_flag(m: &mut MachineState, flag: u64, value: u64) -> bool
-    ensures { λ r. ⌜ (now (m .exit) ≡ setNumbered (now (m .entry)) flag (isSet value)) × (r ≡ names flag) ⌝ }
+    ensures { λ r. ⌜ (now (m .exit) ≡ setNumbered (now (m .entry)) (flagAt flag) (isSet value)) × (r ≡ namesFlag (flagAt flag)) ⌝ }
 {
     let tried = set_numbered(*m, flag, value);
     *m = tried.machine;
@@ -47,32 +50,20 @@ struct Tried {
 }
 
 fn set_numbered(machine: MachineState, flag: u64, value: u64) -> Tried
-    ensures { λ r. ⌜ (r .machine ≡ setNumbered machine flag (isSet value)) × (r .known ≡ names flag) ⌝ }
+    ensures { λ r. ⌜ (r .machine ≡ setNumbered machine (flagAt flag) (isSet value)) × (r .known ≡ namesFlag (flagAt flag)) ⌝ }
 {
-    if flag < 6 {
-        let changed = machine.set_flag(flag_at(flag), value != 0);
-        let machine = changed.machine;
+    let named = instruction_set::flag_at(flag);
+    let SomeFlag::Present(known) = named else {
         return Tried {
             machine,
-            known: true,
+            known: false,
         };
-    }
+    };
+    let changed = machine.set_flag(known, value != 0);
+    let machine = changed.machine;
     Tried {
         machine,
-        known: false,
-    }
-}
-
-fn flag_at(n: u64) -> Flags
-    ensures { λ f. ⌜ f ≡ flagAt n ⌝ }
-{
-    match n {
-        0 => Flags::Carry,
-        1 => Flags::Parity,
-        2 => Flags::Zero,
-        3 => Flags::Sign,
-        4 => Flags::Direction,
-        _ => Flags::Overflow,
+        known: true,
     }
 }
 
@@ -84,8 +75,7 @@ pub struct ArithmeticAnswer {
     pub value: u64,
 }
 
-// The machine is lent as its 25 words: the 22 registers, rflags, gdt and idt. Operation and size are any words; where one names nothing, no
-// word changes.
+// Adds, subtracts or compares on a machine lent as its 25 words (RULES 2.12 to 2.14). Where a number names nothing, no word changes.
 #[no_mangle]
 pub extern "C" fn ruonasvel_arithmetic(
     machine: &mut [u64; 25],
@@ -96,11 +86,11 @@ pub extern "C" fn ruonasvel_arithmetic(
 ) -> ArithmeticAnswer
     ensures { λ r. ⌜ lentAfter (now (machine .exit)) r ≡ operatedOn (operationAt operation) (sizeAt size) (now (machine .entry)) first second ⌝ }
 {
-    let asked = numbers::operation_at(operation);
+    let asked = wire_numbers::operation_at(operation);
     let SomeOperation::Present(chosen) = asked else {
         return unnamed();
     };
-    let sized = numbers::size_at(size);
+    let sized = wire_numbers::size_at(size);
     let SomeSize::Present(width) = sized else {
         return unnamed();
     };
@@ -139,7 +129,7 @@ fn answer_to(operation: Operation, value: u64) -> ArithmeticAnswer
     named(0, 0)
 }
 
-// The flags of a result at its size, in the machine lent as its 25 words. A number that names no size changes no word and answers false.
+// The flags of a result at its size (RULES 2.11), in the 25 words. Answers false, and changes none, where no size has the number.
 #[no_mangle]
 pub extern "C" fn ruonasvel_compute_sized_flags(
     machine: &mut [u64; 25],
@@ -148,7 +138,7 @@ pub extern "C" fn ruonasvel_compute_sized_flags(
 ) -> bool
     ensures { λ r. ⌜ (now (machine .exit) ≡ sizedFlagsOn (sizeAt size) (now (machine .entry)) result) × (r ≡ namesSize (sizeAt size)) ⌝ }
 {
-    let sized = numbers::size_at(size);
+    let sized = wire_numbers::size_at(size);
     let SomeSize::Present(width) = sized else {
         return false;
     };
@@ -156,8 +146,8 @@ pub extern "C" fn ruonasvel_compute_sized_flags(
     true
 }
 
-// What a write answers: the refusal's number, or 0; how many slots lack where that is 6; the slots in use afterwards; whether the screen shows a
-// byte (1), and which.
+// What a write answers: the refusal's number, or 0; how many slots lack where that is 6 (RULES 7.5); the slots in use afterwards; whether
+// the screen shows a byte (1), and which.
 #[repr(C)]
 pub struct WriteAnswer {
     pub refusal: u64,
@@ -167,7 +157,7 @@ pub struct WriteAnswer {
     pub byte: u64,
 }
 
-// Bytes go to an address of a lent store. The machine is lent as its 25 words, of which CR3 is read and none changes.
+// Bytes go to an address of a lent store (RULES 4.1); of the 25 words CR3 is read. Refuses 4, then 5, then 6; may show a byte.
 #[no_mangle]
 pub extern "C" fn ruonasvel_mem_write(
     machine: &[u64; 25],
@@ -193,7 +183,7 @@ pub extern "C" fn ruonasvel_mem_write(
 }
 
 fn refusal_of(answer: mmu::Answer) -> u64
-    ensures { λ n. ⌜ n ≡ outcomeOf answer .number ⌝ }
+    ensures { λ n. ⌜ n ≡ memoryOutcome answer .number ⌝ }
 {
     match answer {
         mmu::Answer::Done => 0,
@@ -202,7 +192,7 @@ fn refusal_of(answer: mmu::Answer) -> u64
 }
 
 fn lacking_of(answer: mmu::Answer) -> u64
-    ensures { λ n. ⌜ n ≡ saysFirst (outcomeOf answer) ⌝ }
+    ensures { λ n. ⌜ n ≡ saysFirst (memoryOutcome answer) ⌝ }
 {
     match answer {
         mmu::Answer::Done => 0,

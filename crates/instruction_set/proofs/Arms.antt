@@ -1,6 +1,6 @@
--- An arm of a `match` on an enum whose variants hold nothing, several variants joined by `|` in the order in which they are declared:
--- the arm's keys are the places that pass a test which the checker computes at each variant, so at the arm's value the test passes.
--- Assumes nothing.
+-- An arm of a `match` on an enum whose variants hold nothing, several variants joined by `|` in the order in which they are declared: the
+-- arm's keys are the numbers of the variants that pass a test which the checker computes at each variant, so at the arm's value the test
+-- passes. Assumes nothing.
 use mathlib.Core.Path.{_≡_, refl, sym, _∙_, ap, subst}
 use mathlib.Core.Bool.{Bool, true, false}
 use mathlib.Core.Logic.{inl, inr}
@@ -32,7 +32,7 @@ bare [] = true
 bare ([] ∷ Fss) = bare Fss
 bare ((F ∷ Fs) ∷ Fss) = false
 
--- the test at the variant at a place
+-- the test at the variant of a number
 abbrev pub at-place : (Fss : List (List Field)) → (Choice Fss → Bool) → ℕ → Bool
 at-place [] g n = true
 at-place ([] ∷ Fss) g zero = g (inl tt)
@@ -46,7 +46,7 @@ at-its ([] ∷ Fss) g b (inl x) = refl
 at-its ([] ∷ Fss) g b (inr c) = at-its Fss (λ e. g (inr e)) b c
 at-its ((F ∷ Fs) ∷ Fss) g b c = absurd b
 
--- those places from n on at which the test passes, of as many as there are variants
+-- those numbers from n on at which the test passes, of as many as there are variants
 abbrev pub if-so : Bool → ℕ → List ℕ → List ℕ
 if-so true n ns = n ∷ ns
 if-so false n ns = ns
@@ -78,7 +78,7 @@ pub arm-says : (N : Record) → T (bare (N .parts)) → (f : N .D → ℕ) (v : 
     → OneOf (keys N (λ e. eqb v (f e))) (tagOf (declared N) d) → v ≡ f d
 arm-says N b f v d h = eqb→eq v (f d) (arm N b (λ e. eqb v (f e)) d h)
 
--- two values of such an enum that have one place are one value
+-- two values of such an enum that have one number are one value
 choice-one : (Fss : List (List Field)) → T (bare Fss) → (c e : Choice Fss)
     → tag (rowss Fss) (intoss Fss c) ≡ tag (rowss Fss) (intoss Fss e) → c ≡ e
 choice-one [] b c e p = absurd c

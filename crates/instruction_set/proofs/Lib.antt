@@ -1,3 +1,4 @@
 pub mod Arms
 pub mod Bounds
 pub mod Outcomes
+pub mod Numbered

@@ -1,5 +1,4 @@
--- What the calls on an arguments record answer, by 01's "Refusal numbers": size selection 9, 8; one-argument access 9 then 10; two-argument
--- access 9 then 11.
+-- What the calls on an arguments record answer, and in which order they refuse (RULES 5.6 to 5.8, 7.3).
 use mathlib.Core.List.{[], _∷_}
 use Prim.Native.Nat.{ℕ}
 use Rattle.utils.specs.Outcome.{Outcome, gives, refuses}
@@ -22,27 +21,27 @@ use Rattle.instruction_set.specs.declared.SomeSize.the-variants as expli
 use Rattle.instruction_set.specs.declared.TwoArguments.{TwoArguments}
 use Rattle.instruction_set.specs.declared.TwoArguments.the-variants as two
 
--- ---- 01's number and values of each answer
-abbrev pub numberOf : Refusal → ℕ
-numberOf NoSize = 8
-numberOf NoFirst = 9
-numberOf SecondGiven = 10
-numberOf NoSecond = 11
+-- ---- the number and values of each answer (RULES 9.3)
+abbrev pub argumentsNumber : Refusal → ℕ
+argumentsNumber NoSize = 8
+argumentsNumber NoFirst = 9
+argumentsNumber SecondGiven = 10
+argumentsNumber NoSecond = 11
 
 abbrev pub oneOutcome : OneArgument → Outcome InstructionArgument
 oneOutcome (one.Argument a) = gives (a ∷ [])
-oneOutcome (one.Refused r) = refuses (numberOf r)
+oneOutcome (one.Refused r) = refuses (argumentsNumber r)
 
 abbrev pub twoOutcome : TwoArguments → Outcome InstructionArgument
 twoOutcome (two.Arguments a b) = gives (a ∷ b ∷ [])
-twoOutcome (two.Refused r) = refuses (numberOf r)
+twoOutcome (two.Refused r) = refuses (argumentsNumber r)
 
 abbrev pub sizeOutcome : Size → Outcome ArgumentSize
 sizeOutcome (size.Selected s) = gives (s ∷ [])
-sizeOutcome (size.Refused r) = refuses (numberOf r)
+sizeOutcome (size.Refused r) = refuses (argumentsNumber r)
 
 -- ---- what the calls owe
--- 9: no first argument where one is needed; 10: a second argument where one is accepted
+-- one argument (RULES 5.7): 9 where the first is absent, then 10 where there is a second
 abbrev pub oneOf : SomeArgument → SomeArgument → Outcome InstructionArgument
 oneOf some.Absent b = refuses 9
 oneOf (some.Present a) some.Absent = gives (a ∷ [])
@@ -51,7 +50,7 @@ oneOf (some.Present a) (some.Present b) = refuses 10
 abbrev pub oneArgument : InstructionArguments → Outcome InstructionArgument
 oneArgument x = oneOf (x .«first_argument») (x .«second_argument»)
 
--- 11: no second argument where two are needed
+-- two arguments (RULES 5.8): 9 where the first is absent, then 11 where the second is
 abbrev pub twoOf : SomeArgument → SomeArgument → Outcome InstructionArgument
 twoOf some.Absent b = refuses 9
 twoOf (some.Present a) some.Absent = refuses 11
@@ -60,22 +59,23 @@ twoOf (some.Present a) (some.Present b) = gives (a ∷ b ∷ [])
 abbrev pub twoArguments : InstructionArguments → Outcome InstructionArgument
 twoArguments x = twoOf (x .«first_argument») (x .«second_argument»)
 
--- a register operand has its own size
-abbrev pub sizeOr : InstructionArgument → Outcome ArgumentSize → Outcome ArgumentSize
-sizeOr (arg.Register r) o = gives (registerSize r ∷ [])
-sizeOr (arg.Immediate v) o = o
-sizeOr (arg.EffectiveAddress b i s d) o = o
+-- a register operand has its own size (RULES 2.6)
+abbrev pub registerSizeOr : InstructionArgument → Outcome ArgumentSize → Outcome ArgumentSize
+registerSizeOr (arg.Register r) o = gives (registerSize r ∷ [])
+registerSizeOr (arg.Immediate v) o = o
+registerSizeOr (arg.EffectiveAddress b i s d) o = o
 
--- 8: two arguments, no explicit size, neither rule of `size()` finds a register; a single argument that is no register counts as Bit64,
--- as in the Rust's `size()`
+-- no explicit size and a first argument that is no register (RULES 5.6): 8 where the second is no register either; a single argument
+-- counts as Bit64
 abbrev pub secondSize : SomeArgument → Outcome ArgumentSize
 secondSize some.Absent = gives (Bit64 ∷ [])
-secondSize (some.Present b) = sizeOr b (refuses 8)
+secondSize (some.Present b) = registerSizeOr b (refuses 8)
 
 abbrev pub firstSize : SomeArgument → SomeArgument → Outcome ArgumentSize
 firstSize some.Absent b = refuses 9
-firstSize (some.Present a) b = sizeOr a (secondSize b)
+firstSize (some.Present a) b = registerSizeOr a (secondSize b)
 
+-- an explicit size goes before all (RULES 5.6)
 abbrev pub explicitSize : SomeSize → Outcome ArgumentSize → Outcome ArgumentSize
 explicitSize (explicit.Present s) o = gives (s ∷ [])
 explicitSize explicit.Absent o = o

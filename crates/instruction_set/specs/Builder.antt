@@ -1,4 +1,4 @@
--- The builder of the Rust: each method gives one part, and a part that is given twice keeps the last.
+-- The builder of the Rust (RULES 5.5): each method gives one part, and a part that is given twice keeps the last.
 use mathlib.Core.Bool.{Bool, false}
 use Prim.Native.Nat.{ℕ}
 use Rattle.instruction_set.specs.declared.ArgumentSize.{ArgumentSize}

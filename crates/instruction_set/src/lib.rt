@@ -1,16 +1,17 @@
 // Registers, flags, sizes and operands: what an instruction names. The arguments record with its builder, access and size selection
 // stands here too. Below is utils; above, machine_state gives registers and operands their values, and text prints them.
-// Document 01: "Files, leaves first", 2; the table of "Registers and flags"; "size selection follows size()"; refusals 8 to 11.
-// An operand holds its register or its address parts; what may be absent is an enum of its own.
+// It carries RULES 2.2 to 2.4 (the table of registers), 2.6, 2.8, 1.6 and, of section 5, 5.1 and 5.5 to 5.8 with refusals 8 to 11. What
+// may be absent is an enum of its own (RULES 9.7).
 ghost use mathlib.Core.Path.{_≡_};
 ghost use Prim.Native.Nat.{_*_};
-ghost use Rattle.instruction_set.specs.Registers.{parentOf, partOf};
-ghost use Rattle.instruction_set.specs.Sizes.{bytesOf, sizeOfPart, registerSize, bitOf};
-ghost use Rattle.instruction_set.specs.Arguments.{oneOutcome, oneArgument, twoOutcome, twoArguments, sizeOutcome, sizeOr};
-ghost use Rattle.instruction_set.specs.Arguments.{selectedSize};
+ghost use Rattle.instruction_set.specs.Registers.{parentOf, partOf, firstLane, lanesRead, lanesRewritten};
+ghost use Rattle.instruction_set.specs.Sizes.{bytesOf, sizeOfPart, registerSize};
+ghost use Rattle.instruction_set.specs.Flags.{bitOf, flagNumber, flagAt};
+ghost use Rattle.instruction_set.specs.Arguments.{argumentsNumber, oneOutcome, oneArgument, twoOutcome, twoArguments};
+ghost use Rattle.instruction_set.specs.Arguments.{sizeOutcome, registerSizeOr, selectedSize};
 ghost use Rattle.instruction_set.specs.Builder.{newBuilder, withFirst, withSecond, withOpcode, withSize, withRepeat, built};
 
-// In the Rust's order.
+// The 80 names, in the Rust's order (RULES 2.4).
 pub enum Register {
     // 64 bits
     RAX,
@@ -99,7 +100,7 @@ pub enum Register {
     GS,
 }
 
-// Which part of its parent, the 64-bit register that holds it, a register is.
+// Which part of its parent, the 64-bit register that holds it, a register is (RULES 2.4); a segment is no part of any.
 pub enum Part {
     Whole,
     Low32,
@@ -109,6 +110,7 @@ pub enum Part {
     Nothing,
 }
 
+// The six flags, in the order of their numbers, 0 to 5 (RULES 2.8).
 pub enum Flags {
     Carry,
     Parity,
@@ -118,6 +120,7 @@ pub enum Flags {
     Overflow,
 }
 
+// The four sizes (RULES 1.6), in the order of their numbers in docs/FORMAT.md, 0 to 3.
 pub enum ArgumentSize {
     Bit64,
     Bit32,
@@ -125,16 +128,19 @@ pub enum ArgumentSize {
     Bit8,
 }
 
+// A base or an index that an address has or does not have.
 pub enum SomeRegister {
     Absent,
     Present(Register),
 }
 
+// A scale, any byte, that an address has or does not have (RULES 3.3).
 pub enum SomeScale {
     Absent,
     Present(u8),
 }
 
+// An operand: a value, a register, or the parts of an address (RULES 5.1).
 pub enum InstructionArgument {
     Immediate {
         immediate: u64,
@@ -150,21 +156,31 @@ pub enum InstructionArgument {
     },
 }
 
+// An operand that an arguments record has or does not have.
 pub enum SomeArgument {
     Absent,
     Present(InstructionArgument),
 }
 
+// An opcode that an arguments record has or does not have.
 pub enum SomeOpcode {
     Absent,
     Present(u8),
 }
 
+// An explicit size that an arguments record has or does not have.
 pub enum SomeSize {
     Absent,
     Present(ArgumentSize),
 }
 
+// A flag, or none.
+pub enum SomeFlag {
+    Absent,
+    Present(Flags),
+}
+
+// The arguments record (RULES 5.5).
 pub struct InstructionArguments {
     pub first_argument: SomeArgument,
     pub second_argument: SomeArgument,
@@ -174,7 +190,7 @@ pub struct InstructionArguments {
     pub repeat_not_equal: bool,
 }
 
-// What the calls on an arguments record refuse: 8, 9, 10 and 11 of 01's table.
+// What the calls on an arguments record refuse: 8, 9, 10 and 11 (RULES 7.1).
 pub enum Refusal {
     NoSize,
     NoFirst,
@@ -182,138 +198,255 @@ pub enum Refusal {
     NoSecond,
 }
 
+impl Refusal {
+    // The refusal's number.
+    pub fn number(self) -> u64
+        ensures { λ n. ⌜ n ≡ argumentsNumber self ⌝ }
+    {
+        match self {
+            Refusal::NoSize => 8,
+            Refusal::NoFirst => 9,
+            Refusal::SecondGiven => 10,
+            Refusal::NoSecond => 11,
+        }
+    }
+}
+
+// The answer of one-argument access (RULES 5.7).
 pub enum OneArgument {
     Argument(InstructionArgument),
     Refused(Refusal),
 }
 
+// The answer of two-argument access (RULES 5.8).
 pub enum TwoArguments {
     Arguments(InstructionArgument, InstructionArgument),
     Refused(Refusal),
 }
 
+// The answer of size selection (RULES 5.6).
 pub enum Size {
     Selected(ArgumentSize),
     Refused(Refusal),
 }
 
-// The number of the 64-bit register that holds r. The segments hold nothing; they give 0, of which they are no part.
+// The number of the parent that r is a part of; a segment, which is no part of any, gives 0 (RULES 2.2). This and the next are the table of
+// names (RULES 2.4), line by line as in specs/Registers.antt: a column each, for a pair would come back through memory.
 pub fn get_parent(r: Register) -> usize
     ensures { λ p. ⌜ p ≡ parentOf r ⌝ }
 {
     match r {
-        Register::RAX
-        | Register::EAX
-        | Register::AX
-        | Register::AL
-        | Register::AH
-        | Register::ES
-        | Register::CS
-        | Register::SS
-        | Register::DS
-        | Register::FS
-        | Register::GS => 0,
-        Register::RBX | Register::EBX | Register::BX | Register::BL | Register::BH => 1,
-        Register::RCX | Register::ECX | Register::CX | Register::CL | Register::CH => 2,
-        Register::RDX | Register::EDX | Register::DX | Register::DL | Register::DH => 3,
-        Register::RSP | Register::ESP | Register::SP | Register::SPL => 4,
-        Register::RBP | Register::EBP | Register::BP | Register::BPL => 5,
-        Register::RSI | Register::ESI | Register::SI | Register::SIL => 6,
-        Register::RDI | Register::EDI | Register::DI | Register::DIL => 7,
-        Register::R8 | Register::R8D | Register::R8W | Register::R8B => 8,
-        Register::R9 | Register::R9D | Register::R9W | Register::R9B => 9,
-        Register::R10 | Register::R10D | Register::R10W | Register::R10B => 10,
-        Register::R11 | Register::R11D | Register::R11W | Register::R11B => 11,
-        Register::R12 | Register::R12D | Register::R12W | Register::R12B => 12,
-        Register::R13 | Register::R13D | Register::R13W | Register::R13B => 13,
-        Register::R14 | Register::R14D | Register::R14W | Register::R14B => 14,
-        Register::R15 | Register::R15D | Register::R15W | Register::R15B => 15,
+        Register::RAX => 0,
+        Register::RBX => 1,
+        Register::RCX => 2,
+        Register::RDX => 3,
+        Register::RSP => 4,
+        Register::RBP => 5,
+        Register::RSI => 6,
+        Register::RDI => 7,
+        Register::R8 => 8,
+        Register::R9 => 9,
+        Register::R10 => 10,
+        Register::R11 => 11,
+        Register::R12 => 12,
+        Register::R13 => 13,
+        Register::R14 => 14,
+        Register::R15 => 15,
         Register::RIP => 16,
         Register::CR0 => 17,
         Register::CR2 => 18,
         Register::CR3 => 19,
         Register::CR4 => 20,
         Register::CR8 => 21,
+        Register::EAX => 0,
+        Register::EBX => 1,
+        Register::ECX => 2,
+        Register::EDX => 3,
+        Register::ESP => 4,
+        Register::EBP => 5,
+        Register::ESI => 6,
+        Register::EDI => 7,
+        Register::R8D => 8,
+        Register::R9D => 9,
+        Register::R10D => 10,
+        Register::R11D => 11,
+        Register::R12D => 12,
+        Register::R13D => 13,
+        Register::R14D => 14,
+        Register::R15D => 15,
+        Register::AX => 0,
+        Register::CX => 2,
+        Register::DX => 3,
+        Register::BX => 1,
+        Register::SP => 4,
+        Register::BP => 5,
+        Register::SI => 6,
+        Register::DI => 7,
+        Register::R8W => 8,
+        Register::R9W => 9,
+        Register::R10W => 10,
+        Register::R11W => 11,
+        Register::R12W => 12,
+        Register::R13W => 13,
+        Register::R14W => 14,
+        Register::R15W => 15,
+        Register::AL => 0,
+        Register::CL => 2,
+        Register::DL => 3,
+        Register::BL => 1,
+        Register::AH => 0,
+        Register::CH => 2,
+        Register::DH => 3,
+        Register::BH => 1,
+        Register::SPL => 4,
+        Register::BPL => 5,
+        Register::SIL => 6,
+        Register::DIL => 7,
+        Register::R8B => 8,
+        Register::R9B => 9,
+        Register::R10B => 10,
+        Register::R11B => 11,
+        Register::R12B => 12,
+        Register::R13B => 13,
+        Register::R14B => 14,
+        Register::R15B => 15,
+        // a segment has no parent: with no lanes, 0 is never read or rewritten
+        Register::ES => 0,
+        Register::CS => 0,
+        Register::SS => 0,
+        Register::DS => 0,
+        Register::FS => 0,
+        Register::GS => 0,
     }
 }
 
+// Which part of its parent r is; a segment is Nothing (RULES 2.4).
 pub fn get_part(r: Register) -> Part
     ensures { λ p. ⌜ p ≡ partOf r ⌝ }
 {
     match r {
-        Register::RAX
-        | Register::RBX
-        | Register::RCX
-        | Register::RDX
-        | Register::RSP
-        | Register::RBP
-        | Register::RSI
-        | Register::RDI
-        | Register::R8
-        | Register::R9
-        | Register::R10
-        | Register::R11
-        | Register::R12
-        | Register::R13
-        | Register::R14
-        | Register::R15
-        | Register::RIP
-        | Register::CR0
-        | Register::CR2
-        | Register::CR3
-        | Register::CR4
-        | Register::CR8 => Part::Whole,
-        Register::EAX
-        | Register::EBX
-        | Register::ECX
-        | Register::EDX
-        | Register::ESP
-        | Register::EBP
-        | Register::ESI
-        | Register::EDI
-        | Register::R8D
-        | Register::R9D
-        | Register::R10D
-        | Register::R11D
-        | Register::R12D
-        | Register::R13D
-        | Register::R14D
-        | Register::R15D => Part::Low32,
-        Register::AX
-        | Register::CX
-        | Register::DX
-        | Register::BX
-        | Register::SP
-        | Register::BP
-        | Register::SI
-        | Register::DI
-        | Register::R8W
-        | Register::R9W
-        | Register::R10W
-        | Register::R11W
-        | Register::R12W
-        | Register::R13W
-        | Register::R14W
-        | Register::R15W => Part::Low16,
-        Register::AL
-        | Register::CL
-        | Register::DL
-        | Register::BL
-        | Register::SPL
-        | Register::BPL
-        | Register::SIL
-        | Register::DIL
-        | Register::R8B
-        | Register::R9B
-        | Register::R10B
-        | Register::R11B
-        | Register::R12B
-        | Register::R13B
-        | Register::R14B
-        | Register::R15B => Part::Low8,
-        Register::AH | Register::CH | Register::DH | Register::BH => Part::High8,
-        Register::ES | Register::CS | Register::SS | Register::DS | Register::FS | Register::GS =>
-            Part::Nothing,
+        Register::RAX => Part::Whole,
+        Register::RBX => Part::Whole,
+        Register::RCX => Part::Whole,
+        Register::RDX => Part::Whole,
+        Register::RSP => Part::Whole,
+        Register::RBP => Part::Whole,
+        Register::RSI => Part::Whole,
+        Register::RDI => Part::Whole,
+        Register::R8 => Part::Whole,
+        Register::R9 => Part::Whole,
+        Register::R10 => Part::Whole,
+        Register::R11 => Part::Whole,
+        Register::R12 => Part::Whole,
+        Register::R13 => Part::Whole,
+        Register::R14 => Part::Whole,
+        Register::R15 => Part::Whole,
+        Register::RIP => Part::Whole,
+        Register::CR0 => Part::Whole,
+        Register::CR2 => Part::Whole,
+        Register::CR3 => Part::Whole,
+        Register::CR4 => Part::Whole,
+        Register::CR8 => Part::Whole,
+        Register::EAX => Part::Low32,
+        Register::EBX => Part::Low32,
+        Register::ECX => Part::Low32,
+        Register::EDX => Part::Low32,
+        Register::ESP => Part::Low32,
+        Register::EBP => Part::Low32,
+        Register::ESI => Part::Low32,
+        Register::EDI => Part::Low32,
+        Register::R8D => Part::Low32,
+        Register::R9D => Part::Low32,
+        Register::R10D => Part::Low32,
+        Register::R11D => Part::Low32,
+        Register::R12D => Part::Low32,
+        Register::R13D => Part::Low32,
+        Register::R14D => Part::Low32,
+        Register::R15D => Part::Low32,
+        Register::AX => Part::Low16,
+        Register::CX => Part::Low16,
+        Register::DX => Part::Low16,
+        Register::BX => Part::Low16,
+        Register::SP => Part::Low16,
+        Register::BP => Part::Low16,
+        Register::SI => Part::Low16,
+        Register::DI => Part::Low16,
+        Register::R8W => Part::Low16,
+        Register::R9W => Part::Low16,
+        Register::R10W => Part::Low16,
+        Register::R11W => Part::Low16,
+        Register::R12W => Part::Low16,
+        Register::R13W => Part::Low16,
+        Register::R14W => Part::Low16,
+        Register::R15W => Part::Low16,
+        Register::AL => Part::Low8,
+        Register::CL => Part::Low8,
+        Register::DL => Part::Low8,
+        Register::BL => Part::Low8,
+        Register::AH => Part::High8,
+        Register::CH => Part::High8,
+        Register::DH => Part::High8,
+        Register::BH => Part::High8,
+        Register::SPL => Part::Low8,
+        Register::BPL => Part::Low8,
+        Register::SIL => Part::Low8,
+        Register::DIL => Part::Low8,
+        Register::R8B => Part::Low8,
+        Register::R9B => Part::Low8,
+        Register::R10B => Part::Low8,
+        Register::R11B => Part::Low8,
+        Register::R12B => Part::Low8,
+        Register::R13B => Part::Low8,
+        Register::R14B => Part::Low8,
+        Register::R15B => Part::Low8,
+        Register::ES => Part::Nothing,
+        Register::CS => Part::Nothing,
+        Register::SS => Part::Nothing,
+        Register::DS => Part::Nothing,
+        Register::FS => Part::Nothing,
+        Register::GS => Part::Nothing,
+    }
+}
+
+// The lowest byte lane of a part.
+pub fn first_lane(part: Part) -> usize
+    ensures { λ n. ⌜ n ≡ firstLane part ⌝ }
+{
+    match part {
+        Part::Whole => 0,
+        Part::Low32 => 0,
+        Part::Low16 => 0,
+        Part::Low8 => 0,
+        Part::High8 => 1,
+        Part::Nothing => 0,
+    }
+}
+
+// How many lanes are read of a part, from the lowest on.
+pub fn lanes_read(part: Part) -> usize
+    ensures { λ n. ⌜ n ≡ lanesRead part ⌝ }
+{
+    match part {
+        Part::Whole => 8,
+        Part::Low32 => 4,
+        Part::Low16 => 2,
+        Part::Low8 => 1,
+        Part::High8 => 1,
+        Part::Nothing => 0,
+    }
+}
+
+// How many lanes a write of a part rewrites, from the lowest on: of 32 bits all eight.
+pub fn lanes_rewritten(part: Part) -> usize
+    ensures { λ n. ⌜ n ≡ lanesRewritten part ⌝ }
+{
+    match part {
+        Part::Whole => 8,
+        Part::Low32 => 8,
+        Part::Low16 => 2,
+        Part::Low8 => 1,
+        Part::High8 => 1,
+        Part::Nothing => 0,
     }
 }
 
@@ -330,13 +463,14 @@ fn size_of_part(p: Part) -> ArgumentSize
     }
 }
 
+// The size of a register: that of its part, and Bit16 of a segment (RULES 2.6).
 pub fn get_register_size(r: Register) -> ArgumentSize
     ensures { λ s. ⌜ s ≡ registerSize r ⌝ }
 {
     size_of_part(get_part(r))
 }
 
-// How many bytes, and how many bits, a size has.
+// How many bytes a size has (RULES 1.6).
 pub fn size_bytes(size: ArgumentSize) -> usize
     ensures { λ n. ⌜ n ≡ bytesOf size ⌝ }
 {
@@ -348,6 +482,7 @@ pub fn size_bytes(size: ArgumentSize) -> usize
     }
 }
 
+// How many bits a size has (RULES 1.6).
 pub fn size_bits(size: ArgumentSize) -> u32
     ensures { λ n. ⌜ n ≡ 8 * bytesOf size ⌝ }
 {
@@ -359,7 +494,7 @@ pub fn size_bits(size: ArgumentSize) -> u32
     }
 }
 
-// Where a flag stands in rflags.
+// Which bit of rflags a flag is (RULES 2.8).
 pub fn flag_bit(flag: Flags) -> u32
     ensures { λ n. ⌜ n ≡ bitOf flag ⌝ }
 {
@@ -373,9 +508,38 @@ pub fn flag_bit(flag: Flags) -> u32
     }
 }
 
+// A flag's number, 0 to 5, by which places, records and hosts name it.
+pub fn flag_number(flag: Flags) -> usize
+    ensures { λ n. ⌜ n ≡ flagNumber flag ⌝ }
+{
+    match flag {
+        Flags::Carry => 0,
+        Flags::Parity => 1,
+        Flags::Zero => 2,
+        Flags::Sign => 3,
+        Flags::Direction => 4,
+        Flags::Overflow => 5,
+    }
+}
+
+// The flag of a number; absent past 5.
+pub fn flag_at(n: u64) -> SomeFlag
+    ensures { λ r. ⌜ r ≡ flagAt n ⌝ }
+{
+    match n {
+        0 => SomeFlag::Present(Flags::Carry),
+        1 => SomeFlag::Present(Flags::Parity),
+        2 => SomeFlag::Present(Flags::Zero),
+        3 => SomeFlag::Present(Flags::Sign),
+        4 => SomeFlag::Present(Flags::Direction),
+        5 => SomeFlag::Present(Flags::Overflow),
+        _ => SomeFlag::Absent,
+    }
+}
+
 // The size of an operand that is a register, or the other size.
 fn register_size_or(argument: InstructionArgument, other: Size) -> Size
-    ensures { λ r. ⌜ sizeOutcome r ≡ sizeOr argument (sizeOutcome other) ⌝ }
+    ensures { λ r. ⌜ sizeOutcome r ≡ registerSizeOr argument (sizeOutcome other) ⌝ }
 {
     match argument {
         InstructionArgument::Register { register } => Size::Selected(get_register_size(register)),
@@ -385,6 +549,7 @@ fn register_size_or(argument: InstructionArgument, other: Size) -> Size
 }
 
 impl InstructionArguments {
+    // The only argument (RULES 5.7). Refuses 9 without a first, then 10 with a second. No event.
     pub fn get_one_argument(self) -> OneArgument
         ensures { λ r. ⌜ oneOutcome r ≡ oneArgument self ⌝ }
     {
@@ -399,6 +564,7 @@ impl InstructionArguments {
         OneArgument::Argument(argument)
     }
 
+    // Both arguments (RULES 5.8). Refuses 9 without a first, then 11 without a second. No event.
     pub fn get_two_arguments(self) -> TwoArguments
         ensures { λ r. ⌜ twoOutcome r ≡ twoArguments self ⌝ }
     {
@@ -413,7 +579,7 @@ impl InstructionArguments {
         TwoArguments::Arguments(a, b)
     }
 
-    // The explicit size, or else that of the first operand that is a register; one operand that is none counts as 64 bits.
+    // The explicit size, or that of the first register operand, or Bit64 of a lone operand that is none (RULES 5.6). Refuses 9, then 8.
     pub fn size(self) -> Size
         ensures { λ r. ⌜ sizeOutcome r ≡ selectedSize self ⌝ }
     {
@@ -433,7 +599,7 @@ impl InstructionArguments {
     }
 }
 
-// What is given of an arguments record so far. A part that is given twice keeps the last.
+// What is given of an arguments record so far (RULES 5.5). A part that is given twice keeps the last.
 pub struct InstructionArgumentsBuilder {
     pub first_argument: SomeArgument,
     pub second_argument: SomeArgument,
@@ -444,6 +610,7 @@ pub struct InstructionArgumentsBuilder {
 }
 
 impl InstructionArgumentsBuilder {
+    // A builder to which nothing is given yet: every part absent, both repeats false.
     pub fn new() -> InstructionArgumentsBuilder
         ensures { λ b. ⌜ b ≡ newBuilder ⌝ }
     {
@@ -457,6 +624,7 @@ impl InstructionArgumentsBuilder {
         }
     }
 
+    // Gives the first argument. No builder call refuses.
     pub fn first_argument(
         mut self,
         first_argument: InstructionArgument,
@@ -469,6 +637,7 @@ impl InstructionArgumentsBuilder {
         }
     }
 
+    // Gives the second argument.
     pub fn second_argument(
         mut self,
         second_argument: InstructionArgument,
@@ -481,6 +650,7 @@ impl InstructionArgumentsBuilder {
         }
     }
 
+    // Gives the opcode.
     pub fn opcode(mut self, opcode: u8) -> InstructionArgumentsBuilder
         ensures { λ b. ⌜ b ≡ withOpcode self opcode ⌝ }
     {
@@ -490,6 +660,7 @@ impl InstructionArgumentsBuilder {
         }
     }
 
+    // Gives the explicit size.
     pub fn explicit_size(mut self, explicit_size: ArgumentSize) -> InstructionArgumentsBuilder
         ensures { λ b. ⌜ b ≡ withSize self «explicit_size» ⌝ }
     {
@@ -499,6 +670,7 @@ impl InstructionArgumentsBuilder {
         }
     }
 
+    // Gives both marks for repetition (RULES 5.5).
     pub fn repeat(
         mut self,
         repeat_equal: bool,
@@ -513,6 +685,7 @@ impl InstructionArgumentsBuilder {
         }
     }
 
+    // The record of what was given. A missing part is refused by who asks for it, not here.
     pub fn finalize(self) -> InstructionArguments
         ensures { λ a. ⌜ a ≡ built self ⌝ }
     {

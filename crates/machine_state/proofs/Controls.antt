@@ -40,7 +40,7 @@ pub control-above : (r : Register) → 17 ≤ parentOf r → isControl r ≡ tru
 control-above r h = rw (control-from-17 r, le-ltb (parentOf r) 17 h)
 
 -- ---- by name
--- the variant's place in the enum: another for each register
+-- the variant's number in the enum: another for each register
 abbrev place : Register → ℕ
 place r = tagOf (declared registers) r
 

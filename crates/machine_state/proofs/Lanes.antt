@@ -1,4 +1,4 @@
--- Which lanes of a machine a register's read looks at and which its write rewrites: exactly those of its row in 01's table. From the laws
+-- Which lanes of a machine a register's read looks at and which its write rewrites: exactly those of its part (RULES 2.4). From the laws
 -- of parts, once over the register. Assumes nothing.
 use mathlib.Core.Path.{_≡_, refl, _∙_, ap}
 use Prim.Native.Nat.{ℕ, _+_, _*_, _%_, _^_, _<_, _≤_}
@@ -7,7 +7,7 @@ use native.Mathlib.Omega.{arith}
 use lib.ListN.{length}
 use lib.Seq.{getD-set-same, getD-set-other}
 use Rattle.utils.specs.Word.{lane, extend}
-use Rattle.instruction_set.specs.Registers.{parentOf, partOf, firstOf, readsOf, rewritesOf}
+use Rattle.instruction_set.specs.Registers.{parentOf, partOf, firstLane, lanesRead, lanesRewritten}
 use Rattle.instruction_set.specs.declared.Register.{Register}
 use Rattle.instruction_set.proofs.Bounds.{parent-below}
 use Rattle.fields.specs.Parts.{readOf, writeOf}
@@ -21,8 +21,8 @@ laneAt m i j = lane j (parentAt m i)
 
 -- machines that agree on the lanes that r reads give the same value
 pub read-same : (m n : MachineState) (r : Register)
-    → ((k : ℕ) → k < readsOf (partOf r)
-    → laneAt m (parentOf r) (firstOf (partOf r) + k) ≡ laneAt n (parentOf r) (firstOf (partOf r) + k)) → readReg m r ≡ readReg n r
+    → ((k : ℕ) → k < lanesRead (partOf r)
+    → laneAt m (parentOf r) (firstLane (partOf r) + k) ≡ laneAt n (parentOf r) (firstLane (partOf r) + k)) → readReg m r ≡ readReg n r
 unfolding readReg
 read-same m n r h = read-part-same (partOf r) (parentAt m (parentOf r)) (parentAt n (parentOf r)) h
 
@@ -32,25 +32,25 @@ module _ (m : MachineState) (r : Register) (v : ℕ) (whole : length (m .regs) �
   parent-after =
       getD-set-same (m .regs) (parentOf r) (writeOf (partOf r) (parentAt m (parentOf r)) v) 0 (omega (arith, parent-below r, whole))
 
-  -- a lane of the row takes the value's lane of that place, of as many as the row reads, and 0 above those
-  pub write-in : (k : ℕ) → k < rewritesOf (partOf r)
-      → laneAt (writeReg m r v) (parentOf r) (firstOf (partOf r) + k) ≡ lane k (v % 2 ^ (8 * readsOf (partOf r)))
-  write-in k h = ap (lane (firstOf (partOf r) + k)) parent-after ∙ write-part-in (partOf r) (parentAt m (parentOf r)) v k h
+  -- a lane of the row takes the value's lane of that position, of as many as the row reads, and 0 above those
+  pub write-in : (k : ℕ) → k < lanesRewritten (partOf r)
+      → laneAt (writeReg m r v) (parentOf r) (firstLane (partOf r) + k) ≡ lane k (v % 2 ^ (8 * lanesRead (partOf r)))
+  write-in k h = ap (lane (firstLane (partOf r) + k)) parent-after ∙ write-part-in (partOf r) (parentAt m (parentOf r)) v k h
 
   out-by : (i j : ℕ) → Dec (i ≡ parentOf r)
-      → (i ≡ parentOf r → firstOf (partOf r) ≤ j → firstOf (partOf r) + rewritesOf (partOf r) ≤ j)
+      → (i ≡ parentOf r → firstLane (partOf r) ≤ j → firstLane (partOf r) + lanesRewritten (partOf r) ≤ j)
       → laneAt (writeReg m r v) i j ≡ laneAt m i j
   unfolding writeReg
   out-by i j (yes e) h = rw e (ap (lane j) parent-after ∙ write-part-out (partOf r) (parentAt m (parentOf r)) v j (h e))
   out-by i j (no n) h = ap (lane j) (getD-set-other (m .regs) (parentOf r) i (writeOf (partOf r) (parentAt m (parentOf r)) v) 0 n)
 
   -- every other lane of every parent keeps its byte
-  pub write-out : (i j : ℕ) → (i ≡ parentOf r → firstOf (partOf r) ≤ j → firstOf (partOf r) + rewritesOf (partOf r) ≤ j)
+  pub write-out : (i j : ℕ) → (i ≡ parentOf r → firstLane (partOf r) ≤ j → firstLane (partOf r) + lanesRewritten (partOf r) ≤ j)
       → laneAt (writeReg m r v) i j ≡ laneAt m i j
   write-out i j h = out-by i j (ℕ-discrete i (parentOf r)) h
 
   -- what is written reads back, sign-extended from the register's size
-  pub write-read : readReg (writeReg m r v) r ≡ extend (8 * readsOf (partOf r)) v
+  pub write-read : readReg (writeReg m r v) r ≡ extend (8 * lanesRead (partOf r)) v
   unfolding readReg
   write-read = ap (readOf (partOf r)) parent-after ∙ write-part-read (partOf r) (parentAt m (parentOf r)) v
 

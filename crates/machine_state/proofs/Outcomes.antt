@@ -11,7 +11,7 @@ use lib.ListN.{getD}
 use Rattle.utils.specs.Outcome.{Outcome}
 use Rattle.mmu.specs.declared.Refusal.the-variants.{BadStore, TooLong, NoRoom}
 use Rattle.mmu.proofs.Answers as memory
-use Rattle.machine_state.specs.Answers.{Value, word, truth, numberOf, saidBy, addressOutcome, outcomeOf, After, left}
+use Rattle.machine_state.specs.Answers.{Value, word, truth, refusalNumber, saidBy, addressOutcome, outcomeOf, Result, resultOf}
 use Rattle.machine_state.specs.declared.Address.{Address}
 use Rattle.machine_state.specs.declared.Address.the-variants as at
 use Rattle.machine_state.specs.declared.Answer.{Answer}
@@ -21,21 +21,21 @@ use Rattle.machine_state.specs.declared.Refusal.{Refusal}
 use Rattle.machine_state.specs.declared.Refusal.the-variants.{NotAnAddress, IntoImmediate, NoScale, Memory}
 
 -- no refusal has the number 0
-pub number-some : (r : Refusal) → 1 ≤ numberOf r
+pub number-some : (r : Refusal) → 1 ≤ refusalNumber r
 number-some NotAnAddress = omega arith
 number-some IntoImmediate = omega arith
 number-some NoScale = omega arith
 number-some (Memory r) = memory.number-some r
 
-pub not-zero : (r : Refusal) → eqb (numberOf r) 0 ≡ false
-not-zero r = let h = number-some r in ne-eqb (numberOf r) 0 (λ e. omega arith)
+pub not-zero : (r : Refusal) → eqb (refusalNumber r) 0 ≡ false
+not-zero r = let h = number-some r in ne-eqb (refusalNumber r) 0 (λ e. omega arith)
 
 -- the refusal of a number, and of what it says, if it says something
 abbrev refusalOf : ℕ → ℕ → Refusal
 refusalOf n k =
     getD (NotAnAddress ∷ NotAnAddress ∷ IntoImmediate ∷ NoScale ∷ Memory BadStore ∷ Memory TooLong ∷ Memory (NoRoom k) ∷ []) n NotAnAddress
 
-refusal-back : (r : Refusal) → refusalOf (numberOf r) (getD (saidBy r) 0 0) ≡ r
+refusal-back : (r : Refusal) → refusalOf (refusalNumber r) (getD (saidBy r) 0 0) ≡ r
 refusal-back NotAnAddress = refl
 refusal-back IntoImmediate = refl
 refusal-back NoScale = refl
@@ -87,16 +87,16 @@ pub record AllEqual (r q : Answered) (d b l d′ b′ l′ : List ℕ) : Type 0 
   pub bytes : b ≡ b′
   pub lent : l ≡ l′
 
-pub left-one : (r q : Answered) (d b l d′ b′ l′ : List ℕ) → left r d b l ≡ left q d′ b′ l′ → AllEqual r q d b l d′ b′ l′
+pub left-one : (r q : Answered) (d b l d′ b′ l′ : List ℕ) → resultOf r d b l ≡ resultOf q d′ b′ l′ → AllEqual r q d b l d′ b′ l′
 left-one r q d b l d′ b′ l′ e =
     record {
       answered = λ i. record {
-        machine = ap (λ (x : After). x .machine) e i;
-        used = ap (λ (x : After). x .store .used) e i;
-        event = ap (λ (x : After). x .event) e i;
-        answer = answer-outcome (r .answer) (q .answer) (ap (λ (x : After). x .outcome) e) i;
+        machine = ap (λ (x : Result). x .machine) e i;
+        used = ap (λ (x : Result). x .store .used) e i;
+        event = ap (λ (x : Result). x .event) e i;
+        answer = answer-outcome (r .answer) (q .answer) (ap (λ (x : Result). x .outcome) e) i;
       };
-      dir = ap (λ (x : After). x .store .dir) e;
-      bytes = ap (λ (x : After). x .store .bytes) e;
-      lent = ap (λ (x : After). x .lent) e;
+      dir = ap (λ (x : Result). x .store .dir) e;
+      bytes = ap (λ (x : Result). x .store .bytes) e;
+      lent = ap (λ (x : Result). x .lent) e;
     }

@@ -1,9 +1,9 @@
--- What an answer says, by 01's "Refusal numbers", and what a call leaves.
+-- What an answer says, by the numbers of the refusals (RULES 7.1, 9.3), and what a call leaves.
 use mathlib.Core.Bool.{Bool}
 use mathlib.Core.List.{List, [], _∷_, map}
 use Prim.Native.Nat.{ℕ}
 use Rattle.utils.specs.Outcome.{Outcome, gives, refusesWith}
-use Rattle.mmu.specs.Calls.{numberOf as memoryNumber, saidBy as saidByMemory}
+use Rattle.mmu.specs.Calls.{memoryNumber, saidByMemory}
 use Rattle.store.specs.Store.{Store, storeOf}
 use Rattle.machine_state.specs.declared.Address.{Address}
 use Rattle.machine_state.specs.declared.Address.the-variants as at
@@ -15,14 +15,14 @@ use Rattle.machine_state.specs.declared.MachineState.{MachineState}
 use Rattle.machine_state.specs.declared.Refusal.{Refusal}
 use Rattle.machine_state.specs.declared.Refusal.the-variants.{NotAnAddress, IntoImmediate, NoScale, Memory}
 
--- ---- 01's number and values of each answer
-abbrev pub numberOf : Refusal → ℕ
-numberOf NotAnAddress = 1
-numberOf IntoImmediate = 2
-numberOf NoScale = 3
-numberOf (Memory r) = memoryNumber r
+-- ---- the number and values of each answer
+abbrev pub refusalNumber : Refusal → ℕ
+refusalNumber NotAnAddress = 1
+refusalNumber IntoImmediate = 2
+refusalNumber NoScale = 3
+refusalNumber (Memory r) = memoryNumber r
 
--- what a refusal says besides its number
+-- what a refusal says besides its number (RULES 7.5)
 abbrev pub saidBy : Refusal → List ℕ
 saidBy NotAnAddress = []
 saidBy IntoImmediate = []
@@ -31,7 +31,7 @@ saidBy (Memory r) = saidByMemory r
 
 abbrev pub addressOutcome : Address → Outcome ℕ
 addressOutcome (at.At a) = gives (a ∷ [])
-addressOutcome (at.Refused r) = refusesWith (numberOf r) (saidBy r)
+addressOutcome (at.Refused r) = refusesWith (refusalNumber r) (saidBy r)
 
 -- a value is a word, or yes or no
 pub data Value : Type 0 where
@@ -42,10 +42,10 @@ abbrev pub outcomeOf : Answer → Outcome Value
 outcomeOf answer.Done = gives []
 outcomeOf (answer.Value v) = gives (word v ∷ [])
 outcomeOf (answer.Truth b) = gives (truth b ∷ [])
-outcomeOf (answer.Refused r) = refusesWith (numberOf r) (map word (saidBy r))
+outcomeOf (answer.Refused r) = refusesWith (refusalNumber r) (map word (saidBy r))
 
--- ---- what a call leaves: the machine, the store with its count, the bytes lent to it, the event and what it answers
-pub record After : Type 0 where
+-- ---- what a call leaves (RULES 4.8): the machine, the store with its count, the bytes lent to it, the event and what it answers
+pub record Result : Type 0 where
   pub machine : MachineState
   pub store : Store
   pub lent : List ℕ
@@ -53,8 +53,8 @@ pub record After : Type 0 where
   pub outcome : Outcome Value
 
 -- the answer, with the slices as the call leaves them: what each contract speaks of
-abbrev pub left : Answered → List ℕ → List ℕ → List ℕ → After
-left r dir bytes lent = record {
+abbrev pub resultOf : Answered → List ℕ → List ℕ → List ℕ → Result
+resultOf r dir bytes lent = record {
   machine = r .machine;
   store = storeOf dir bytes (r .used);
   lent = lent;

@@ -1,5 +1,5 @@
--- The flags of a machine: what a test reads, and what `set_flag` and `compute_flags` leave (01, "Registers and flags"); the sized form of
--- `compute_flags` (02, No. 4).
+-- The flags of a machine: what a test reads and what `set_flag` leaves (RULES 2.9), and what `compute_flags` (RULES 2.10) and its sized
+-- form (RULES 2.11) leave.
 use mathlib.Core.Bool.{Bool}
 use Prim.Native.Nat.{ℕ}
 use Rattle.fields.specs.FlagBits.{flagOf, putFlag, computedFlags, sizedFlags}

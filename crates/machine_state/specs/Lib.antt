@@ -4,4 +4,4 @@ pub mod Operating
 pub mod Address
 pub mod Answers
 pub mod Memory
-pub mod Steps
+pub mod Private

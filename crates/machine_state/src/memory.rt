@@ -1,6 +1,6 @@
-// The calls that reach memory: reads and writes by address, operand values, and the stack. A store is lent to each: the directory, the bytes and
-// the count of slots in use. Every call takes the machine and hands it back with the count, the event and the answer (01, "Which form each place
-// takes"). Memory itself is mmu's; one call here reads it and one writes it, and all others go through these two.
+// The calls that reach memory: reads and writes by address (RULES 4.1), operand values (5.2, 5.3), and the stack (4.3). A store is lent
+// to each: the directory, the bytes and the count of slots in use. Every call takes the machine and hands it back with the count, the
+// event and the answer (4.8). Memory itself is mmu's; one call here reads it and one writes it, and all others go through these two.
 use crate::Address;
 use crate::Answer;
 use crate::Answered;
@@ -12,17 +12,18 @@ use instruction_set::InstructionArgument;
 ghost use mathlib.Core.List.{[]};
 ghost use mathlib.Core.Path.{_≡_};
 ghost use Rattle.store.specs.Store.{storeOf};
-ghost use Rattle.machine_state.specs.Answers.{left};
+ghost use Rattle.machine_state.specs.Answers.{resultOf};
 ghost use Rattle.machine_state.specs.Memory.{eventShown, readMemory, writeMemory, loaded, storedAt, readOperand, writeOperand};
 ghost use Rattle.machine_state.specs.Memory.{pushed, popped};
-ghost use Rattle.machine_state.specs.Steps.{finished, fromMemory, givenValue, givenRsp};
+ghost use Rattle.machine_state.specs.Private.{finished, fromMemory, givenValue, givenRsp};
 ghost use Rattle.instruction_set.specs.declared.ArgumentSize.the-variants.{Bit8};
 
+// The parent numbers of RSP and CR3 (RULES 2.2).
 const RSP: usize = 4;
 
 const CR3: usize = 19;
 
-// The event of a write that shows this on the screen.
+// The event of a write that shows this on the screen (RULES 4.5).
 fn event_shown(shown: mmu::Shown) -> Event
     ensures { λ r. ⌜ r ≡ eventShown shown ⌝ }
 {
@@ -83,7 +84,7 @@ impl MachineState {
         }
     }
 
-    // The bytes at an address fill `out`.
+    // The bytes at an address fill `out` (RULES 4.1). Refuses 4, then 5. No event.
     pub fn mem_read(
         mut self,
         address: u64,
@@ -92,7 +93,7 @@ impl MachineState {
         bytes: &[u8],
         used: usize,
     ) -> Answered
-        ensures { λ r. ⌜ left r (now (dir .entry)) (now (bytes .entry)) (now (out .exit))
+        ensures { λ r. ⌜ resultOf r (now (dir .entry)) (now (bytes .entry)) (now (out .exit))
             ≡ readMemory self (storeOf (now (dir .entry)) (now (bytes .entry)) used) address (now (out .entry)) ⌝ }
     {
         let cr3 = self.regs[CR3];
@@ -100,7 +101,7 @@ impl MachineState {
         self.quietly(used, from_memory(answer))
     }
 
-    // `data` goes to the bytes at an address.
+    // `data` goes to the bytes at an address (RULES 4.1). Refuses 4, then 5, then 6; the video event, or none (RULES 4.5).
     pub fn mem_write(
         mut self,
         address: u64,
@@ -109,7 +110,7 @@ impl MachineState {
         bytes: &mut [u8],
         used: usize,
     ) -> Answered
-        ensures { λ r. ⌜ left r (now (dir .exit)) (now (bytes .exit)) (now («data» .entry))
+        ensures { λ r. ⌜ resultOf r (now (dir .exit)) (now (bytes .exit)) (now («data» .entry))
             ≡ writeMemory self (storeOf (now (dir .entry)) (now (bytes .entry)) used) address (now («data» .entry)) ⌝ }
     {
         let cr3 = self.regs[CR3];
@@ -125,7 +126,8 @@ impl MachineState {
         }
     }
 
-    // The value at an address: the bytes of the size, low byte first, with zeros above them.
+    // The value at an address: the bytes of the size, low byte first, Bit16 and Bit32 sign-extended, Bit8 with zeros above it, Bit64 as
+    // it is (RULES 4.2).
     fn load(
         mut self,
         address: u64,
@@ -134,7 +136,7 @@ impl MachineState {
         bytes: &[u8],
         used: usize,
     ) -> Answered
-        ensures { λ r. ⌜ left r (now (dir .entry)) (now (bytes .entry)) []
+        ensures { λ r. ⌜ resultOf r (now (dir .entry)) (now (bytes .entry)) []
             ≡ loaded self (storeOf (now (dir .entry)) (now (bytes .entry)) used) address size ⌝ }
     {
         let n = instruction_set::size_bytes(size);
@@ -144,6 +146,7 @@ impl MachineState {
         read.with_value(value)
     }
 
+    // The low bytes of a value, as many as the size has, go to an address (RULES 4.2).
     fn store(
         mut self,
         address: u64,
@@ -153,7 +156,7 @@ impl MachineState {
         bytes: &mut [u8],
         used: usize,
     ) -> Answered
-        ensures { λ r. ⌜ left r (now (dir .exit)) (now (bytes .exit)) []
+        ensures { λ r. ⌜ resultOf r (now (dir .exit)) (now (bytes .exit)) []
             ≡ storedAt self (storeOf (now (dir .entry)) (now (bytes .entry)) used) address size value ⌝ }
     {
         let n = instruction_set::size_bytes(size);
@@ -161,14 +164,15 @@ impl MachineState {
         self.mem_write(address, &word[..n], dir, bytes, used)
     }
 
+    // The byte at an address, with zeros above it (RULES 4.4). Refuses 4. No event.
     pub fn mem_read_byte(mut self, address: u64, dir: &[u64], bytes: &[u8], used: usize) -> Answered
-        ensures { λ r. ⌜ left r (now (dir .entry)) (now (bytes .entry)) []
+        ensures { λ r. ⌜ resultOf r (now (dir .entry)) (now (bytes .entry)) []
             ≡ loaded self (storeOf (now (dir .entry)) (now (bytes .entry)) used) address Bit8 ⌝ }
     {
         self.load(address, ArgumentSize::Bit8, dir, bytes, used)
     }
 
-    // The value of an operand: a register ignores the size, and an immediate reads whole.
+    // The value of an operand: a register ignores the size, and an immediate reads whole (RULES 5.2). Refuses 3, then 4. No event.
     pub fn get_value(
         mut self,
         arg: InstructionArgument,
@@ -177,7 +181,7 @@ impl MachineState {
         bytes: &[u8],
         used: usize,
     ) -> Answered
-        ensures { λ r. ⌜ left r (now (dir .entry)) (now (bytes .entry)) []
+        ensures { λ r. ⌜ resultOf r (now (dir .entry)) (now (bytes .entry)) []
             ≡ readOperand self (storeOf (now (dir .entry)) (now (bytes .entry)) used) arg «argument_size» ⌝ }
     {
         if let InstructionArgument::Register { register } = arg {
@@ -193,6 +197,7 @@ impl MachineState {
         }
     }
 
+    // Writes an operand: a register ignores the size (RULES 5.3). Refuses 2, 3, 4, 6 in this order; a control or video event, or none.
     pub fn set_value(
         mut self,
         value: u64,
@@ -202,7 +207,7 @@ impl MachineState {
         bytes: &mut [u8],
         used: usize,
     ) -> Answered
-        ensures { λ r. ⌜ left r (now (dir .exit)) (now (bytes .exit)) []
+        ensures { λ r. ⌜ resultOf r (now (dir .exit)) (now (bytes .exit)) []
             ≡ writeOperand self (storeOf (now (dir .entry)) (now (bytes .entry)) used) arg «argument_size» value ⌝ }
     {
         if let InstructionArgument::Register { register } = arg {
@@ -226,6 +231,7 @@ impl MachineState {
         }
     }
 
+    // Writes `data` at rsp less its length, and rsp moves there (RULES 4.3). Refuses 4, 5, 6, and rsp stays; a video event, or none.
     pub fn stack_push(
         mut self,
         data: &[u8],
@@ -233,7 +239,7 @@ impl MachineState {
         bytes: &mut [u8],
         used: usize,
     ) -> Answered
-        ensures { λ r. ⌜ left r (now (dir .exit)) (now (bytes .exit)) (now («data» .entry))
+        ensures { λ r. ⌜ resultOf r (now (dir .exit)) (now (bytes .exit)) (now («data» .entry))
             ≡ pushed self (storeOf (now (dir .entry)) (now (bytes .entry)) used) (now («data» .entry)) ⌝ }
     {
         let rsp = self.regs[RSP];
@@ -242,8 +248,9 @@ impl MachineState {
         written.with_rsp(to)
     }
 
+    // The eight bytes at rsp as a value, then rsp is 8 more (RULES 4.3). Refuses 4, and rsp stays. No event.
     pub fn stack_pop(mut self, dir: &[u64], bytes: &[u8], used: usize) -> Answered
-        ensures { λ r. ⌜ left r (now (dir .entry)) (now (bytes .entry)) []
+        ensures { λ r. ⌜ resultOf r (now (dir .entry)) (now (bytes .entry)) []
             ≡ popped self (storeOf (now (dir .entry)) (now (bytes .entry)) used) ⌝ }
     {
         let rsp = self.regs[RSP];

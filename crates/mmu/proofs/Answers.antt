@@ -8,16 +8,16 @@ use native.Mathlib.Omega.{arith}
 use lib.Dec.{leb}
 use lib.ListN.{length, getD}
 use borrow.Author.Tests.{leb-true, le-leb, lt-leb, eq-eqb, ne-eqb}
-use Rattle.runs.specs.Runs.{tabulate}
+use Rattle.byte_runs.specs.Runs.{tabulate}
 use Rattle.utils.specs.Outcome.{Outcome, gives, refuses, refusesWith}
-use Rattle.store.specs.Store.{Store, storeOf, sound, live, unused, readAt, written, touched, absentOf, slotsLacking}
-use Rattle.store.specs.Facts.{Sound}
+use Rattle.store.specs.Store.{Store, storeOf, isStore, pagesInUse, unused, readAt, written, touched, absentOf, slotsLacking}
+use Rattle.store.specs.Facts.{IsStore}
 use Rattle.walk.specs.Walk.{physical, translated, readInto}
 use Rattle.writes.specs.Writes.{byteOf, Stored}
-use Rattle.writes.specs.Parts.{Fits}
-use Rattle.mmu.specs.Calls.{numberOf, saidBy, outcomeOf, readOutcome, readOut, writeOutcome, writeStore, cell, shownAt, shownOf}
+use Rattle.writes.specs.Private.{Fits}
+use Rattle.mmu.specs.Calls.{memoryNumber, saidByMemory, memoryOutcome, readOutcome, readOut, writeOutcome, writeStore, cell, shownAt, shownOf}
 use Rattle.mmu.specs.Calls.{Wrote}
-use Rattle.mmu.specs.Parts.{RefusedFor}
+use Rattle.mmu.specs.Private.{RefusedFor}
 use Rattle.mmu.specs.declared.Refusal.{Refusal}
 use Rattle.mmu.specs.declared.Refusal.the-variants.{BadStore, TooLong, NoRoom}
 use Rattle.mmu.specs.declared.Answer.{Answer}
@@ -31,7 +31,7 @@ use Rattle.walk.proofs.Walked.{translated-of, read-of}
 use Rattle.writes.proofs.Stores.{done-room, done-written, lacks-room, lacks-so-many, lacks-same}
 
 -- ---- an outcome tells its answer
-refusal-one : (a b : Refusal) → numberOf a ≡ numberOf b → saidBy a ≡ saidBy b → a ≡ b
+refusal-one : (a b : Refusal) → memoryNumber a ≡ memoryNumber b → saidByMemory a ≡ saidByMemory b → a ≡ b
 refusal-one BadStore BadStore e f = refl
 refusal-one BadStore TooLong e f = absurd (omega arith)
 refusal-one BadStore (NoRoom k) e f = absurd (omega arith)
@@ -42,12 +42,12 @@ refusal-one (NoRoom j) BadStore e f = absurd (omega arith)
 refusal-one (NoRoom j) TooLong e f = absurd (omega arith)
 refusal-one (NoRoom j) (NoRoom k) e f = ap (λ (l : List ℕ). NoRoom (getD l 0 0)) f
 
-pub number-some : (a : Refusal) → 1 ≤ numberOf a
+pub number-some : (a : Refusal) → 1 ≤ memoryNumber a
 number-some BadStore = omega arith
 number-some TooLong = omega arith
 number-some (NoRoom k) = omega arith
 
-pub outcome-one : (a b : Answer) → outcomeOf a ≡ outcomeOf b → a ≡ b
+pub outcome-one : (a b : Answer) → memoryOutcome a ≡ memoryOutcome b → a ≡ b
 outcome-one Done Done e = refl
 outcome-one Done (Refused b) e = absurd (omega (arith, number-some b, ap (λ (o : Outcome ℕ). o .number) e))
 outcome-one (Refused a) Done e = absurd (omega (arith, number-some a, ap (λ (o : Outcome ℕ). o .number) e))
@@ -55,15 +55,15 @@ outcome-one (Refused a) (Refused b) e =
     ap Refused (refusal-one a b (ap (λ (o : Outcome ℕ). o .number) e) (ap (λ (o : Outcome ℕ). o .values) e))
 
 -- ---- a read
-pub read-bad : (s : Store) (n : ℕ) → sound s ≡ false → readOutcome s n ≡ refuses 4
+pub read-bad : (s : Store) (n : ℕ) → isStore s ≡ false → readOutcome s n ≡ refuses 4
 unfolding readOutcome
 read-bad s n e = rw e
 
-pub read-long : (s : Store) (n : ℕ) → sound s ≡ true → 4096 < n → readOutcome s n ≡ refuses 5
+pub read-long : (s : Store) (n : ℕ) → isStore s ≡ true → 4096 < n → readOutcome s n ≡ refuses 5
 unfolding readOutcome
 read-long s n e h = rw (e, lt-leb n 4096 h)
 
-pub read-done : (s : Store) (n : ℕ) → sound s ≡ true → n ≤ 4096 → readOutcome s n ≡ gives []
+pub read-done : (s : Store) (n : ℕ) → isStore s ≡ true → n ≤ 4096 → readOutcome s n ≡ gives []
 unfolding readOutcome
 read-done s n e h = rw (e, le-leb n 4096 h)
 
@@ -77,8 +77,8 @@ pub out-done : (s : Store) (cr3 a : ℕ) (out : List ℕ) → readOutcome s (len
 unfolding readOut
 out-done s cr3 a out e = rw e
 
--- what is read at the place to which the walk leads
-pub read-there : (s : Store) (cr3 a q : ℕ) (out o : List ℕ) → sound s ≡ true → q ≡ translated s cr3 a → o ≡ readInto s q out
+-- what is read at the address to which the walk leads
+pub read-there : (s : Store) (cr3 a q : ℕ) (out o : List ℕ) → isStore s ≡ true → q ≡ translated s cr3 a → o ≡ readInto s q out
     → o ≡ readAt s (physical s cr3 a) (length out)
 read-there s cr3 a q out o h eq e = e ∙ read-of s q out h ∙ rw (eq ∙ translated-of s cr3 a h)
 
@@ -88,40 +88,40 @@ read-empty s p [] e = refl
 read-empty s p (b ∷ out) e = absurd (omega arith)
 
 -- ---- a write: the outcome of each case
-pub write-bad : (s : Store) (p n : ℕ) → sound s ≡ false → writeOutcome s p n ≡ refuses 4
+pub write-bad : (s : Store) (p n : ℕ) → isStore s ≡ false → writeOutcome s p n ≡ refuses 4
 unfolding writeOutcome
 write-bad s p n e = rw e
 
-pub write-long : (s : Store) (p n : ℕ) → sound s ≡ true → 4096 < n → writeOutcome s p n ≡ refuses 5
+pub write-long : (s : Store) (p n : ℕ) → isStore s ≡ true → 4096 < n → writeOutcome s p n ≡ refuses 5
 unfolding writeOutcome
 write-long s p n e h = rw (e, lt-leb n 4096 h)
 
-pub write-full : (s : Store) (p n : ℕ) → sound s ≡ true → n ≤ 4096 → unused s < absentOf (live s) (touched p n)
+pub write-full : (s : Store) (p n : ℕ) → isStore s ≡ true → n ≤ 4096 → unused s < absentOf (pagesInUse s) (touched p n)
     → writeOutcome s p n ≡ refusesWith 6 (slotsLacking s p n ∷ [])
 unfolding writeOutcome
 write-full s p n e b r = rw (e, le-leb n 4096 b, lt-leb _ _ r)
 
-pub write-done : (s : Store) (p n : ℕ) → sound s ≡ true → n ≤ 4096 → absentOf (live s) (touched p n) ≤ unused s
+pub write-done : (s : Store) (p n : ℕ) → isStore s ≡ true → n ≤ 4096 → absentOf (pagesInUse s) (touched p n) ≤ unused s
     → writeOutcome s p n ≡ gives []
 unfolding writeOutcome
 write-done s p n e b r = rw (e, le-leb n 4096 b, le-leb _ _ r)
 
-pub write-empty : (s : Store) (p n : ℕ) → sound s ≡ true → n ≡ 0 → writeOutcome s p n ≡ gives []
+pub write-empty : (s : Store) (p n : ℕ) → isStore s ≡ true → n ≡ 0 → writeOutcome s p n ≡ gives []
 write-empty s p n e z =
-    write-done s p n e (omega arith) (rw z (let q : absentOf (live s) (touched p 0) ≡ 0 = unfold touched absentOf in refl in omega arith))
+    write-done s p n e (omega arith) (rw z (let q : absentOf (pagesInUse s) (touched p 0) ≡ 0 = unfold touched absentOf in refl in omega arith))
 
 -- accepted exactly when: a sound store, at most 4,096 bytes, and no more absent pages than unused slots
 pub record Accepted (s : Store) (p n : ℕ) : Type 0 where
-  pub sound : sound s ≡ true
+  pub sound : isStore s ≡ true
   pub short : n ≤ 4096
-  pub room : absentOf (live s) (touched p n) ≤ unused s
+  pub room : absentOf (pagesInUse s) (touched p n) ≤ unused s
 
 pub accepts-only : (s : Store) (p n : ℕ) → writeOutcome s p n ≡ gives [] → Accepted s p n
 unfolding writeOutcome
 accepts-only s p n e =
-    go (sound s) refl (leb n 4096) refl (leb (absentOf (live s) (touched p n)) (unused s)) refl (ap (λ (o : Outcome ℕ). o .number) e)
+    go (isStore s) refl (leb n 4096) refl (leb (absentOf (pagesInUse s) (touched p n)) (unused s)) refl (ap (λ (o : Outcome ℕ). o .number) e)
   where
-    go : (a : Bool) → sound s ≡ a → (b : Bool) → leb n 4096 ≡ b → (c : Bool) → leb (absentOf (live s) (touched p n)) (unused s) ≡ c
+    go : (a : Bool) → isStore s ≡ a → (b : Bool) → leb n 4096 ≡ b → (c : Bool) → leb (absentOf (pagesInUse s) (touched p n)) (unused s) ≡ c
         → cond a (cond b (cond c (gives []) (refusesWith 6 (slotsLacking s p n ∷ []))) (refuses 5)) (refuses 4) .number ≡ 0
         → Accepted s p n
     go true x true y true z w = record { sound = x; short = leb-true _ _ y; room = leb-true _ _ z }
@@ -132,7 +132,7 @@ accepts-only s p n e =
 -- an outcome whose number is 0 is that of a write that is done
 pub write-accepted : (s : Store) (p n : ℕ) → writeOutcome s p n .number ≡ 0 → writeOutcome s p n ≡ gives []
 unfolding writeOutcome
-write-accepted s p n e = go (sound s) (leb n 4096) (leb (absentOf (live s) (touched p n)) (unused s)) e
+write-accepted s p n e = go (isStore s) (leb n 4096) (leb (absentOf (pagesInUse s) (touched p n)) (unused s)) e
   where
     tested : Bool → Bool → Bool → Outcome ℕ
     tested a b c = cond a (cond b (cond c (gives []) (refusesWith 6 (slotsLacking s p n ∷ []))) (refuses 5)) (refuses 4)
@@ -198,14 +198,14 @@ shown-empty p [] h = refl
 shown-empty p (b ∷ d) h = absurd (omega arith)
 
 -- ---- all that a write owes, from what the code's steps give
-pub wrote-refused : (s : Store) (p : ℕ) (d : List ℕ) (r : Refusal) → writeOutcome s p (length d) ≡ outcomeOf (Refused r)
+pub wrote-refused : (s : Store) (p : ℕ) (d : List ℕ) (r : Refusal) → writeOutcome s p (length d) ≡ memoryOutcome (Refused r)
     → Wrote s s p d (Refused r) Dark
 wrote-refused s p d r e =
     let n = number-some r in
     record {
       answer = sym e;
-      shown = sym (dark-refused s p (numberOf r) d (saidBy r) n e);
-      store = sym (store-refused s p (numberOf r) d (saidBy r) n e);
+      shown = sym (dark-refused s p (memoryNumber r) d (saidByMemory r) n e);
+      store = sym (store-refused s p (memoryNumber r) d (saidByMemory r) n e);
     }
 
 pub wrote-done : (s t : Store) (p : ℕ) (d : List ℕ) (e : Shown) → writeOutcome s p (length d) ≡ gives []
@@ -214,11 +214,11 @@ pub wrote-done : (s t : Store) (p : ℕ) (d : List ℕ) (e : Shown) → writeOut
 wrote-done s t p d e o et ee = record { answer = sym o; shown = ee ∙ sym (shown-done s p d o); store = et ∙ sym (store-done s p d o) }
 
 -- length 0: accepted with no walk, and nothing changes
-pub wrote-empty : (s : Store) (p : ℕ) (d : List ℕ) → sound s ≡ true → length d ≡ 0 → Wrote s s p d Done Dark
+pub wrote-empty : (s : Store) (p : ℕ) (d : List ℕ) → isStore s ≡ true → length d ≡ 0 → Wrote s s p d Done Dark
 wrote-empty s p d e z = wrote-done s s p d Dark (write-empty s p (length d) e z) (rw z (unfold written in refl)) (shown-empty p d z)
 
 -- where the walk leads
-pub wrote-there : (c a : ℕ) {s t : Store} {q : ℕ} {d : List ℕ} {r : Answer} {e : Shown} → sound s ≡ true → q ≡ translated s c a
+pub wrote-there : (c a : ℕ) {s t : Store} {q : ℕ} {d : List ℕ} {r : Answer} {e : Shown} → isStore s ≡ true → q ≡ translated s c a
     → Wrote s t q d r e → Wrote s t (physical s c a) d r e
 wrote-there c a h eq w = rw (sym (eq ∙ translated-of _ c a h)) w
 
@@ -230,26 +230,26 @@ wrote-one s t t′ p d r r′ e e′ w w′ =
 
 -- the answer of a refused write, as the code hands it back
 pub wrote-refused-for : (s : Store) (p : ℕ) (d : List ℕ) (r : Refusal) (w : Written) → RefusedFor w r (s .used)
-    → writeOutcome s p (length d) ≡ outcomeOf (Refused r) → Wrote s (storeOf (s .dir) (s .bytes) (w .used)) p d (w .answer) (w .shown)
+    → writeOutcome s p (length d) ≡ memoryOutcome (Refused r) → Wrote s (storeOf (s .dir) (s .bytes) (w .used)) p d (w .answer) (w .shown)
 wrote-refused-for s p d r w h e = rw (h .answer, h .count, h .dark) (wrote-refused s p d r e)
 
 -- what `mem_write_phys` did, as the answer of a write: done, or no room
-pub wrote-placed : (s t : Store) (p : ℕ) (d : List ℕ) (b : Bool) (k : ℕ) (e : Shown) → Sound s → length d ≤ 4096 → Stored s t p d b k
+pub wrote-placed : (s t : Store) (p : ℕ) (d : List ℕ) (b : Bool) (k : ℕ) (e : Shown) → IsStore s → length d ≤ 4096 → Stored s t p d b k
     → b ≡ true → e ≡ shownAt p d → Wrote s t p d Done e
 wrote-placed s t p d b k e h short w q ee =
     let x = sound-true s h in
     wrote-done s t p d e (write-done s p (length d) x short (done-room s t p d b k w x q)) (done-written s t p d b k w q) ee
 
 -- no more slots lack than bytes are written
-pub lacking-small : (s t : Store) (p : ℕ) (d : List ℕ) (b : Bool) (k : ℕ) → Sound s → length d ≤ 4096 → Stored s t p d b k → k ≤ 4096
+pub lacking-small : (s t : Store) (p : ℕ) (d : List ℕ) (b : Bool) (k : ℕ) → IsStore s → length d ≤ 4096 → Stored s t p d b k → k ≤ 4096
 lacking-small s t p d b k h short w =
-    omega (arith, lacks-so-many s t p d b k w (sound-true s h), absent-at-most (live s) p (length d))
+    omega (arith, lacks-so-many s t p d b k w (sound-true s h), absent-at-most (pagesInUse s) p (length d))
 
 -- with as many slots lacking as it says
-pub wrote-lacking : (s t : Store) (p : ℕ) (d : List ℕ) (b : Bool) (k : ℕ) (r : Written) → Sound s → length d ≤ 4096 → Stored s t p d b k
+pub wrote-lacking : (s t : Store) (p : ℕ) (d : List ℕ) (b : Bool) (k : ℕ) (r : Written) → IsStore s → length d ≤ 4096 → Stored s t p d b k
     → b ≡ false → RefusedFor r (NoRoom k) (t .used) → Wrote s (storeOf (t .dir) (t .bytes) (r .used)) p d (r .answer) (r .shown)
 wrote-lacking s t p d b k r h short w q f =
     let x = sound-true s h in
     let o = write-full s p (length d) x short (lacks-room s t p d b k w x q) in
-    let n : refusesWith 6 (slotsLacking s p (length d) ∷ []) ≡ outcomeOf (Refused (NoRoom k)) = rw (lacks-so-many s t p d b k w x) in
+    let n : refusesWith 6 (slotsLacking s p (length d) ∷ []) ≡ memoryOutcome (Refused (NoRoom k)) = rw (lacks-so-many s t p d b k w x) in
     rw (f .answer, f .count, f .dark) (rw (lacks-same s t p d b k w q) (wrote-refused s p d (NoRoom k) (o ∙ n)))

@@ -1,4 +1,4 @@
--- A write that lacks slots, and the same write into a store with more of them: the walk leads to the same place, and what lacks is less
+-- A write that lacks slots, and the same write into a store with more of them: the walk leads to the same address, and what lacks is less
 -- by as many. The idea: a store that has grown reads as before (store: Grown).
 use mathlib.Core.Path.{_≡_, refl, sym, ap, _∙_}
 use mathlib.Core.Bool.{Bool, true, false, cond}
@@ -9,7 +9,7 @@ use lib.Dec.{leb}
 use lib.ListN.{length, getD}
 use borrow.Author.Tests.{leb-true, leb-false}
 use Rattle.utils.specs.Outcome.{gives, refuses, refusesWith}
-use Rattle.store.specs.Store.{Store, sound, live, unused, touched, absentOf, slotsLacking, withSlots}
+use Rattle.store.specs.Store.{Store, isStore, pagesInUse, unused, touched, absentOf, slotsLacking, withSlots}
 use Rattle.walk.specs.Walk.{physical, entriesRead}
 use Rattle.mmu.specs.Calls.{writeOutcome, writeStore}
 use Rattle.store.proofs.Read.{sound-facts}
@@ -20,15 +20,15 @@ use Rattle.mmu.proofs.Laws.{law-count}
 
 -- 6 is given only where: a sound store, at most 4,096 bytes, and more absent pages than unused slots
 pub record Lacks (s : Store) (p n : ℕ) : Type 0 where
-  pub sound : sound s ≡ true
+  pub sound : isStore s ≡ true
   pub short : n ≤ 4096
-  pub room : unused s < absentOf (live s) (touched p n)
+  pub room : unused s < absentOf (pagesInUse s) (touched p n)
 
 pub lacks-only : (s : Store) (p n : ℕ) → writeOutcome s p n .number ≡ 6 → Lacks s p n
 unfolding writeOutcome
-lacks-only s p n e = go (sound s) refl (leb n 4096) refl (leb (absentOf (live s) (touched p n)) (unused s)) refl e
+lacks-only s p n e = go (isStore s) refl (leb n 4096) refl (leb (absentOf (pagesInUse s) (touched p n)) (unused s)) refl e
   where
-    go : (a : Bool) → sound s ≡ a → (b : Bool) → leb n 4096 ≡ b → (c : Bool) → leb (absentOf (live s) (touched p n)) (unused s) ≡ c
+    go : (a : Bool) → isStore s ≡ a → (b : Bool) → leb n 4096 ≡ b → (c : Bool) → leb (absentOf (pagesInUse s) (touched p n)) (unused s) ≡ c
         → cond a (cond b (cond c (gives []) (refusesWith 6 (slotsLacking s p n ∷ []))) (refuses 5)) (refuses 4) .number ≡ 6
         → Lacks s p n
     go true x true y false z w = record { sound = x; short = leb-true _ _ y; room = leb-false _ _ z }

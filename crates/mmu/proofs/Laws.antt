@@ -11,12 +11,12 @@ use lib.Dec.{ltb, leb}
 use lib.ListN.{length, getD}
 use borrow.Author.Tests.{leb-true, leb-false, ltb-true, ltb-false}
 use Rattle.utils.specs.Outcome.{gives}
-use Rattle.store.specs.Store.{Store, sound, live, byteAt, readAt, written, touched, absentOf}
-use Rattle.walk.specs.Walk.{physical, entriesRead, Alike}
+use Rattle.store.specs.Store.{Store, isStore, pagesInUse, byteAt, readAt, written, touched, absentOf}
+use Rattle.walk.specs.Walk.{physical, entriesRead, SameEntries}
 use Rattle.writes.specs.Writes.{byteOf}
-use Rattle.writes.specs.Parts.{Fits}
+use Rattle.writes.specs.Private.{Fits}
 use Rattle.mmu.specs.Calls.{writeOutcome, writeStore}
-use Rattle.runs.proofs.Filled.{tab-ext, tab-getD}
+use Rattle.byte_runs.proofs.Filled.{tab-ext, tab-getD}
 use Rattle.store.proofs.Read.{sound-true}
 use Rattle.store.proofs.Growth.{Still, still, written-in, written-out, written-count, written-number, written-keeps}
 use Rattle.mmu.proofs.Answers.{accepts-only, accepted-fits, store-done}
@@ -26,7 +26,7 @@ module _ (s : Store) (p : ℕ) (d : List ℕ) (e : writeOutcome s p (length d) �
   fits : Fits s p (length d)
   fits = accepted-fits s p (length d) (accepts-only s p (length d) e)
 
-  counted : written s p (byteOf d) (length d) .used ≡ s .used + absentOf (live s) (touched p (length d))
+  counted : written s p (byteOf d) (length d) .used ≡ s .used + absentOf (pagesInUse s) (touched p (length d))
   counted = written-count s (fits .sound) p (byteOf d) (length d) (fits .room)
 
   within : written s p (byteOf d) (length d) .used ≤ length (s .dir)
@@ -58,7 +58,7 @@ module _ (s : Store) (p : ℕ) (d : List ℕ) (e : writeOutcome s p (length d) �
       go false x b y = law-out q (inl (leb-false p q x))
 
   -- the store stays sound, with as many slots
-  pub law-sound : sound (writeStore s p d) ≡ true
+  pub law-sound : isStore (writeStore s p d) ≡ true
   law-sound = rw (store-done s p d e) (sound-true (written s p (byteOf d) (length d)) (kept .sound))
 
   pub law-slots : length (writeStore s p d .dir) ≡ length (s .dir)
@@ -67,8 +67,8 @@ module _ (s : Store) (p : ℕ) (d : List ℕ) (e : writeOutcome s p (length d) �
   pub law-bytes : length (writeStore s p d .bytes) ≡ length (s .bytes)
   law-bytes = rw (store-done s p d e) (omega (arith, kept .sound .sized, kept .slots, fits .sound .sized))
 
-  -- the count is that of the directory rule
-  pub law-count : writeStore s p d .used ≡ s .used + absentOf (live s) (touched p (length d))
+  -- the count grows by the absent pages touched (RULES 3.9)
+  pub law-count : writeStore s p d .used ≡ s .used + absentOf (pagesInUse s) (touched p (length d))
   law-count = rw (store-done s p d e) counted
 
   -- a slot in use keeps its number, and its bytes too if no byte of the write is in its page
@@ -92,7 +92,7 @@ module _ (s : Store) (p : ℕ) (d : List ℕ) (e : writeOutcome s p (length d) �
       → physical (writeStore s p d) cr3 a ≡ physical s cr3 a
   law-walk cr3 a apart = sym (walk-same s (writeStore s p d) cr3 a same)
     where
-      same : Alike s (writeStore s p d) (entriesRead s 3 cr3 a)
+      same : SameEntries s (writeStore s p d) (entriesRead s 3 cr3 a)
       same j lt k lk =
           sym (law-out (getD (entriesRead s 3 cr3 a) j 0 + k)
           (⊎-elim

@@ -1,6 +1,6 @@
--- What the public calls owe: each answer's number, the lent bytes afterwards, the store, and what is shown on the screen. Written from
--- 01, "Refusal numbers" and "Addresses, pages, walk"; every contract is an equation with one of these, or a record of such equations
--- (`Wrote`), so that no two outcomes satisfy it.
+-- What the public calls owe: each answer's number, the lent bytes afterwards, the store, and what is shown on the screen (RULES 4.1, 4.5
+-- to 4.7, 7.1, 7.2). Every contract is an equation with one of these, or a record of such equations (`Wrote`), so that no two outcomes
+-- satisfy it (RULES 9.2).
 use mathlib.Core.Path.{_≡_}
 use mathlib.Core.Bool.{Bool, cond, _&&_}
 use mathlib.Core.List.{List, [], _∷_}
@@ -8,7 +8,7 @@ use Prim.Native.Nat.{ℕ, _%_}
 use lib.Dec.{leb, eqb}
 use lib.ListN.{length}
 use Rattle.utils.specs.Outcome.{Outcome, gives, refuses, refusesWith, accepted}
-use Rattle.store.specs.Store.{Store, sound, slotsSuffice, slotsLacking, readAt, written}
+use Rattle.store.specs.Store.{pageSize, Store, isStore, slotsSuffice, slotsLacking, readAt, written}
 use Rattle.walk.specs.Walk.{physical}
 use Rattle.writes.specs.Writes.{byteOf}
 use Rattle.mmu.specs.declared.Refusal.{Refusal}
@@ -18,57 +18,57 @@ use Rattle.mmu.specs.declared.Answer.the-variants.{Done, Refused}
 use Rattle.mmu.specs.declared.Shown.{Shown}
 use Rattle.mmu.specs.declared.Shown.the-variants.{Nothing as Dark, Byte}
 
--- 01's number of each refusal; what it says besides: 6, how many slots lack (02, No. 5); and of each answer its number and values
-abbrev pub numberOf : Refusal → ℕ
-numberOf BadStore = 4
-numberOf TooLong = 5
-numberOf (NoRoom k) = 6
+-- the number of each refusal (RULES 7.1); what it says besides: 6, how many slots lack (RULES 7.5); and of each answer its number and
+-- values (RULES 9.3)
+abbrev pub memoryNumber : Refusal → ℕ
+memoryNumber BadStore = 4
+memoryNumber TooLong = 5
+memoryNumber (NoRoom k) = 6
 
-abbrev pub saidBy : Refusal → List ℕ
-saidBy BadStore = []
-saidBy TooLong = []
-saidBy (NoRoom k) = k ∷ []
+abbrev pub saidByMemory : Refusal → List ℕ
+saidByMemory BadStore = []
+saidByMemory TooLong = []
+saidByMemory (NoRoom k) = k ∷ []
 
-abbrev pub outcomeOf : Answer → Outcome ℕ
-outcomeOf Done = gives []
-outcomeOf (Refused r) = refusesWith (numberOf r) (saidBy r)
+abbrev pub memoryOutcome : Answer → Outcome ℕ
+memoryOutcome Done = gives []
+memoryOutcome (Refused r) = refusesWith (memoryNumber r) (saidByMemory r)
 
--- a read of n bytes: 4, then 5
+-- a read of n bytes: 4, then 5 (RULES 7.2)
 unfoldable pub readOutcome : Store → ℕ → Outcome ℕ
-readOutcome s n = cond (sound s) (cond (leb n 4096) (gives []) (refuses 5)) (refuses 4)
+readOutcome s n = cond (isStore s) (cond (leb n pageSize) (gives []) (refuses 5)) (refuses 4)
 
--- "A memory read fills the whole lent buffer, whose length is that of the access"; a refused one leaves it
+-- an accepted read fills the whole lent buffer (RULES 4.1); a refused one leaves it
 unfoldable pub readOut : Store → ℕ → ℕ → List ℕ → List ℕ
 readOut s cr3 a out = cond (accepted (readOutcome s (length out))) (readAt s (physical s cr3 a) (length out)) out
 
--- a write of n bytes at physical p: 4, then 5, then 6, "a write touches more absent pages than there are unused slots", which says how many
--- slots lack.
--- "Length 0 .. still reaches memory for refusal 4": it touches no page, so 6 is never given; that no walk is done shows in no outcome
+-- a write of n bytes at physical p: 4, then 5, then 6, which says how many slots lack (RULES 7.2, 7.5).
+-- A write of length 0 touches no page, so it is given 4 or nothing (RULES 4.6); that no walk is done shows in no outcome
 unfoldable pub writeOutcome : Store → ℕ → ℕ → Outcome ℕ
 writeOutcome s p n =
-    cond (sound s)
-    (cond (leb n 4096) (cond (slotsSuffice s p n) (gives []) (refusesWith 6 (slotsLacking s p n ∷ []))) (refuses 5))
+    cond (isStore s)
+    (cond (leb n pageSize) (cond (slotsSuffice s p n) (gives []) (refusesWith 6 (slotsLacking s p n ∷ []))) (refuses 5))
     (refuses 4)
 
--- the store after the bytes d are written at physical p; a refused write leaves it
+-- the store after the bytes d are written at physical p (RULES 3.9, 4.1); a refused write leaves it
 unfoldable pub writeStore : Store → ℕ → List ℕ → Store
 writeStore s p d = cond (accepted (writeOutcome s p (length d))) (written s p (byteOf d) (length d)) s
 
--- "A write of at least one byte at an even physical address from 0xB8000 to 0xB8FA0, ends included, gives a video event with its first
--- byte"
+-- the addresses at which a write shows its first byte: the even ones from 0xB8000 to 0xB8FA0, both ends included (RULES 4.5)
 unfoldable pub cell : ℕ → Bool
 cell p = leb 0xB8000 p && (leb p 0xB8FA0 && eqb (p % 2) 0)
 
+-- what an accepted write shows: its first byte, if it goes to such an address (RULES 4.5)
 unfoldable pub shownAt : ℕ → List ℕ → Shown
 shownAt p [] = Dark
 shownAt p (b ∷ bs) = cond (cell p) (Byte b) Dark
 
--- a refusal gives no event
+-- a refused write shows nothing (RULES 4.7)
 unfoldable pub shownOf : Store → ℕ → List ℕ → Shown
 shownOf s p d = cond (accepted (writeOutcome s p (length d))) (shownAt p d) Dark
 
--- all that a write at physical p owes: "Only an access's first byte is translated; the rest follow physically"
+-- all that a write at physical p owes: the address of its first byte alone is translated, and p is what it leads to (RULES 3.14)
 pub record Wrote (s t : Store) (p : ℕ) (d : List ℕ) (r : Answer) (e : Shown) : Type 0 where
-  pub answer : outcomeOf r ≡ writeOutcome s p (length d)
+  pub answer : memoryOutcome r ≡ writeOutcome s p (length d)
   pub shown : e ≡ shownOf s p d
   pub store : t ≡ writeStore s p d

@@ -1,14 +1,14 @@
--- Independent neighbours change places, from what each call owes, and so they do inside a longer list. The idea: a call looks at the same
--- whether or not its neighbour has gone before (`unmoved`), so it answers the same and leaves the same where it rewrites; and each part of
--- the state is changed by one of the two at most, or emptied by both. Assumes nothing.
+-- Independent neighbours may be exchanged, from what each call owes, and so they may inside a longer list. The idea: a call looks at the
+-- same whether or not its neighbour has gone before (`unmoved`), so it answers the same and leaves the same where it rewrites; and each
+-- part of the state is changed by one of the two at most, or emptied by both. Assumes nothing.
 use Prim.Native.Nat.{ℕ}
 use mathlib.Core.Path.{_≡_, refl, sym, ap, ap₂, _∙_}
 use mathlib.Core.Logic.{_⊎_, inl, inr}
 use mathlib.Core.Bool.{Bool, true, false, cond, _&&_, _||_, and-comm}
 use mathlib.Core.List.{List, [], _∷_, _++_}
 use Rattle.utils.proofs.Bools.{tested, and-left, and-right, first-fails, or-left, or-right}
-use Rattle.rows.specs.Exposed.{Left, end}
-use Rattle.neighbours.specs.Swapped.{Swapped, answered, Exchanged}
+use Rattle.effects.specs.Exposed.{Performed, end}
+use Rattle.neighbours.specs.Swapped.{Swapped, answersOf, Exchanged}
 use Rattle.neighbours.proofs.Parted.{Independent, looks, Alike, Parted}
 
 -- of two that are not both so, where one is so the other is not
@@ -23,7 +23,7 @@ emptied-twice true false nothing h = refl
 emptied-twice false true nothing h = refl
 emptied-twice false false nothing h = refl
 
-module _ {C A X S H Z : Type 0} (reads rewrites : C → ℕ → Bool) (reaches : C → Bool) (does : C → X → Left A X) (shared : X → S)
+module _ {C A X S H Z : Type 0} (reads rewrites : C → ℕ → Bool) (reaches : C → Bool) (does : C → X → Performed A X) (shared : X → S)
     (aside : X → H) (place : X → ℕ → Z) (Good : X → Type 0) (key : ℕ) (nothing : H) (empties : C → X → Bool)
     (owed : Parted reads rewrites reaches does shared aside place Good key nothing empties) where
   abbrev Apart : C → C → Type 0
@@ -145,10 +145,10 @@ module _ {C A X S H Z : Type 0} (reads rewrites : C → ℕ → Bool) (reaches :
       }
 
 -- ---- inside a longer list
-module _ {C A X : Type 0} (does : C → X → Left A X) where
+module _ {C A X : Type 0} (does : C → X → Performed A X) where
   answered-append : (before rest : List C) (x : X)
-      → answered does (before ++ rest) x ≡ answered does before x ++ answered does rest (end does before x)
-  unfolding answered end
+      → answersOf does (before ++ rest) x ≡ answersOf does before x ++ answersOf does rest (end does before x)
+  unfolding answersOf end
   answered-append [] rest x = refl
   answered-append (c ∷ before) rest x = ap (λ (l : List A). does c x .answer ∷ l) (answered-append before rest (does c x .after))
 
@@ -159,16 +159,16 @@ module _ {C A X : Type 0} (does : C → X → Left A X) where
 
   pub exchanged : (before : List C) (c d : C) (after : List C) (x : X) → Swapped does c d (end does before x)
       → Exchanged does before c d after x
-  unfolding answered end
+  unfolding answersOf end
   exchanged before c d after x s =
       let y = end does before x in
       record {
         one = does c y .answer;
         other = does d (does c y .after) .answer;
-        later = answered does after (does d (does c y .after) .after);
+        later = answersOf does after (does d (does c y .after) .after);
         as-listed = answered-append before (c ∷ d ∷ after) x;
         turned = answered-append before (d ∷ c ∷ after) x
-            ∙ sym (λ i. answered does before x ++ s .second i ∷ s .first i ∷ answered does after (s .last i));
+            ∙ sym (λ i. answersOf does before x ++ s .second i ∷ s .first i ∷ answersOf does after (s .last i));
         ends = end-append before (c ∷ d ∷ after) x
             ∙ ap (λ (z : X). end does after z) (s .last)
             ∙ sym (end-append before (d ∷ c ∷ after) x);

@@ -1,12 +1,12 @@
--- What independent neighbours are, and what each call owes so that they change places. The state has three parts: places, a shared part
+-- What independent neighbours are, and what each call owes so that they may be exchanged. The state has three parts: places, a shared part
 -- (memory), and a part aside. Only calls that reach memory and read the key's place look at what is aside; any other leaves it or empties
 -- it. Today nothing is aside (`nothing-aside`); it is room for what a machine remembers of its walks, whose key is CR3. Nothing here knows
 -- what a call, a place or a state is. Assumes nothing.
 use mathlib.Core.Bool.{Bool, true, false, cond, _&&_, _||_}
 use mathlib.Core.Path.{_≡_, refl}
 use Prim.Native.Nat.{ℕ}
-use Rattle.rows.specs.Exposed.{Left}
-use Rattle.rows.proofs.Forgotten.{Owed}
+use Rattle.effects.specs.Exposed.{Performed}
+use Rattle.effects.proofs.Forgotten.{Owed}
 
 -- neither rewrites what the other reads or rewrites, and not both reach memory
 pub record Independent {C : Type 0} (reads rewrites : C → ℕ → Bool) (reaches : C → Bool) (c d : C) : Type 0 where
@@ -27,7 +27,7 @@ pub record Alike
   pub beside : looks reads reaches key c ≡ true → aside x ≡ aside y
 
 pub record Parted
-    {C A X S H Z : Type 0} (reads rewrites : C → ℕ → Bool) (reaches : C → Bool) (does : C → X → Left A X) (shared : X → S) (aside : X → H)
+    {C A X S H Z : Type 0} (reads rewrites : C → ℕ → Bool) (reaches : C → Bool) (does : C → X → Performed A X) (shared : X → S) (aside : X → H)
     (place : X → ℕ → Z) (Good : X → Type 0) (key : ℕ) (nothing : H) (empties : C → X → Bool) : Type 0 where
   pub good : (c : C) (x : X) → Good x → Good (does c x .after)
   -- what it does not rewrite it keeps, and memory stays where it does not reach it
@@ -51,7 +51,7 @@ pub record Parted
   pub holds : (c : C) (x : X) → Good x → reaches c ≡ false → rewrites c key ≡ false → empties c x ≡ false
 
 -- with nothing aside it is what the theorem on forgotten readers asks of the calls
-pub nothing-aside : {C A X S Z : Type 0} (reads rewrites : C → ℕ → Bool) (reaches : C → Bool) (does : C → X → Left A X) (shared : X → S)
+pub nothing-aside : {C A X S Z : Type 0} (reads rewrites : C → ℕ → Bool) (reaches : C → Bool) (does : C → X → Performed A X) (shared : X → S)
     (place : X → ℕ → Z) (Good : X → Type 0) (key : ℕ) → Owed reads rewrites reaches does shared place Good
     → Parted {H = Unit {0}} reads rewrites reaches does shared (λ x. tt) place Good key tt (λ c x. false)
 nothing-aside reads rewrites reaches does shared place Good key owed =

@@ -1,11 +1,11 @@
 -- A machine that remembers, to show that the part aside is room for one: a key, a memory, and what was last walked to. It meets `Parted`,
--- and the pair for which the part aside was made changes places: a write of the key forgets, a release forgets where it frees something,
+-- and the pair for which the part aside was made can be exchanged: a write of the key forgets, a release forgets where it frees something,
 -- and neither looks at what is remembered. Nothing of the machine stands on this. Assumes nothing.
 use mathlib.Core.Bool.{Bool, true, false, cond, not, _&&_, and-false, true≢false, false≢true}
 use mathlib.Core.Path.{_≡_, refl, ap}
 use Prim.Native.Nat.{ℕ, zero, suc, _+_}
 use lib.Dec.{eqb}
-use Rattle.rows.specs.Exposed.{Left}
+use Rattle.effects.specs.Exposed.{Performed}
 use Rattle.neighbours.specs.Swapped.{Swapped}
 use Rattle.neighbours.proofs.Neighbours.{neighbours}
 use Rattle.neighbours.proofs.Parted.{Alike, Parted}
@@ -24,7 +24,7 @@ pub record Small : Type 0 where
 abbrev pub walked : Small → ℕ
 walked x = cond (eqb (x .known) 0) (x .key + x .memory) (x .known)
 
-abbrev pub steps : Step → Small → Left ℕ Small
+abbrev pub steps : Step → Small → Performed ℕ Small
 steps (writeKey v) x = record { answer = 0; after = record { key = v; memory = x .memory; known = 0 } }
 steps walk x = record { answer = walked x; after = record { key = x .key; memory = x .memory; known = walked x } }
 steps release x =

@@ -1,5 +1,5 @@
--- 02, No. 7 for the calls of the table: neighbours that are not dependent change places. The generic theorem, with what each call owes and
--- with a machine being its places; and the test by the 182 places says of every place what the theorem wants. Assumes nothing.
+-- RULES 8.6 for the calls of the table: neighbours that are not dependent may be exchanged. The generic theorem, with what each call owes
+-- and with a machine being its places; and the test by the 182 places says of every place what the theorem wants. Assumes nothing.
 use mathlib.Core.Bool.{Bool, true, false, _&&_, _||_, and-comm}
 use mathlib.Core.List.{List}
 use mathlib.Core.Logic.{_⊎_, inl, inr}
@@ -9,13 +9,13 @@ use native.Mathlib.Decide.{decLt}
 use native.Mathlib.Omega.{arith}
 use Rattle.utils.proofs.Bools.{tested, and-left, and-right, both, first-fails, or-left, or-right, or-none-left, or-none-right}
 use Rattle.calls.specs.declared.Call.{Call}
-use Rattle.rows.specs.Exposed.{end}
-use Rattle.rows.specs.Places.{place, Sound, Act, State, does, reads, rewrites, reachesMemory, placeIn, storeIn, SoundState}
-use Rattle.rows.specs.Rows.{rewritesOf, reaches, inSpans}
-use Rattle.rows.proofs.Inside.{rewrites-inside, none-above}
-use Rattle.rows.proofs.Owed.{owed}
-use Rattle.rows.proofs.Theorem.{ends-sound}
-use Rattle.rows.proofs.Whole.{whole}
+use Rattle.effects.specs.Exposed.{end}
+use Rattle.effects.specs.Places.{place, WellTyped, Act, State, does, reads, rewrites, reachesMemory, placeIn, storeIn, WellTypedState}
+use Rattle.effects.specs.Rows.{rewritesOf, reaches, inSpans}
+use Rattle.effects.proofs.Inside.{rewrites-inside, none-above}
+use Rattle.effects.proofs.Owed.{owed}
+use Rattle.effects.proofs.Theorem.{ends-well-typed}
+use Rattle.effects.proofs.Whole.{whole}
 use Rattle.neighbours.specs.Dependent.{common, touches, meets, dependent, Meets, Dependent, forth, back, memory}
 use Rattle.neighbours.specs.Swapped.{Swapped, Exchanged}
 use Rattle.neighbours.proofs.Common.{some-found, some-none}
@@ -44,7 +44,7 @@ independent a b h =
     }
 
 -- ---- a state is its store, what is aside (today nothing) and its places
-whole-state : (x y : State) → Sound (x .machine) → Sound (y .machine) → x .store ≡ y .store → _≡_ {A = Unit {0}} tt tt
+whole-state : (x y : State) → WellTyped (x .machine) → WellTyped (y .machine) → x .store ≡ y .store → _≡_ {A = Unit {0}} tt tt
     → ((p : ℕ) → place (x .machine) p ≡ place (y .machine) p) → x ≡ y
 whole-state x y gx gy s aside same =
     let m : x .machine ≡ y .machine = whole (x .machine) (y .machine) gx gy same in
@@ -54,17 +54,17 @@ whole-state x y gx gy s aside same =
 abbrev cr3Place : ℕ
 cr3Place = 152
 
-pub neighbours-swap : (a b : Act) (x : State) → Sound (x .machine) → dependent (a .call) (b .call) ≡ false → Swapped does a b x
+pub neighbours-swap : (a b : Act) (x : State) → WellTyped (x .machine) → dependent (a .call) (b .call) ≡ false → Swapped does a b x
 neighbours-swap a b x g h =
-    neighbours reads rewrites reachesMemory does storeIn (λ y. tt) placeIn SoundState cr3Place tt (λ c y. false)
-    (nothing-aside reads rewrites reachesMemory does storeIn placeIn SoundState cr3Place owed) whole-state a b x g (independent a b h)
+    neighbours reads rewrites reachesMemory does storeIn (λ y. tt) placeIn WellTypedState cr3Place tt (λ c y. false)
+    (nothing-aside reads rewrites reachesMemory does storeIn placeIn WellTypedState cr3Place owed) whole-state a b x g (independent a b h)
 
 -- wherever in a list the two stand
-pub neighbours-exchange : (before : List Act) (a b : Act) (after : List Act) (x : State) → Sound (x .machine)
+pub neighbours-exchange : (before : List Act) (a b : Act) (after : List Act) (x : State) → WellTyped (x .machine)
     → dependent (a .call) (b .call) ≡ false
     → Exchanged does before a b after x
 neighbours-exchange before a b after x g h =
-    exchanged does before a b after x (neighbours-swap a b (end does before x) (ends-sound before x g) h)
+    exchanged does before a b after x (neighbours-swap a b (end does before x) (ends-well-typed before x g) h)
 
 -- it does not matter which of the two comes first
 swap-first : (a b c : Bool) → (a || (b || c)) ≡ (b || (a || c))
@@ -78,7 +78,7 @@ dependent-either-way c d =
     swap-first (meets c d) (meets d c) (reaches c && reaches d)
     ∙ ap (λ (b : Bool). meets d c || (meets c d || b)) (and-comm (reaches c) (reaches d))
 
--- ---- the test in the request's words, both ways
+-- ---- the test in the rule's words (RULES 8.6), both ways
 met : (c d : Call) → meets c d ≡ true → Meets c d
 unfolding meets common
 met c d h =

@@ -10,10 +10,10 @@ use lib.Dec.{ltb}
 use borrow.Author.Tests.{ltb-true, lt-ltb}
 use Rattle.utils.proofs.Bools.{tested, and-left, and-right, both, or-right}
 use Rattle.calls.specs.declared.Call.{Call}
-use Rattle.rows.specs.Rows.{readsOf, rewritesOf, reaches, inSpan, inSpans}
-use Rattle.rows.specs.declared.Span.{Span}
-use Rattle.rows.specs.declared.Spans.{Spans}
-use Rattle.rows.proofs.Within.{in-low, in-high, in-yes, in-out}
+use Rattle.effects.specs.Rows.{readsOf, rewritesOf, reaches, inSpan, inSpans}
+use Rattle.effects.specs.declared.Span.{Span}
+use Rattle.effects.specs.declared.Spans.{Spans}
+use Rattle.effects.proofs.Within.{in-low, in-high, in-yes, in-out}
 use Rattle.neighbours.specs.Dependent.{common, meets, dependent}
 use Rattle.neighbours.proofs.Common.{some-found, found-some, common-swap, common-or, common-four, common-none}
 

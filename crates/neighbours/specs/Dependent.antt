@@ -1,9 +1,9 @@
--- Dependent calls (02, No. 7), by the rows of the table: a test, as code can make it, and the request's sentence.
+-- Dependent calls (RULES 8.6), by the rows of the table: a test, as code can make it, and the rule's sentence.
 use mathlib.Core.Bool.{Bool, true, false, _&&_, _||_}
 use mathlib.Core.Path.{_≡_}
 use Prim.Native.Nat.{ℕ, zero, suc}
 use Rattle.calls.specs.declared.Call.{Call}
-use Rattle.rows.specs.Rows.{readsOf, rewritesOf, reaches, inSpans}
+use Rattle.effects.specs.Rows.{readsOf, rewritesOf, reaches, inSpans}
 
 -- some number below n has it
 unfoldable pub some : ℕ → (ℕ → Bool) → Bool
@@ -18,16 +18,16 @@ common f g = some 182 (λ p. f p && g p)
 abbrev pub touches : Call → ℕ → Bool
 touches c p = inSpans (readsOf c) p || inSpans (rewritesOf c) p
 
--- "one rewrites a place that the other reads or rewrites": the first call does
+-- the first call rewrites a place that the second reads or rewrites
 unfoldable pub meets : Call → Call → Bool
 meets c d = common (inSpans (rewritesOf c)) (touches d)
 
--- "Two neighbouring calls are dependent if one rewrites a place that the other reads or rewrites, or if both reach memory." Both reach it
--- by their kind: also two that read it, and also where one is refused
+-- dependent: one of them does so to the other, or both reach memory (RULES 8.6). Both reach it by their kind: also two that read it, and
+-- also where one is refused
 unfoldable pub dependent : Call → Call → Bool
 dependent c d = meets c d || (meets d c || reaches c && reaches d)
 
--- ---- the same in the request's words, with no bound on the place
+-- ---- the same in the rule's words, with no bound on the place
 pub record Meets (c d : Call) : Type 0 where
   pub at : ℕ
   pub rewrites : inSpans (rewritesOf c) at ≡ true

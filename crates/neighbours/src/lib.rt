@@ -1,14 +1,14 @@
-// Independent neighbours: whether two neighbouring calls may change places. They are dependent if one rewrites a place that the other reads or
-// rewrites, or if both reach memory; this crate tests it, and proves that any other two give the same answers and leave the same machine and store in
-// either order, wherever in a list they stand. Below is rows, which has what each call reads and rewrites, and whether it reaches memory. Above are
-// promises, which states the theorem, and the programs that ask.
-// Document 02: No. 7.
+// Independent neighbours: whether two neighbouring calls may be exchanged. They are dependent if some place is rewritten by one and read
+// or rewritten by the other, or if both reach memory; this crate tests it, and proves that any other two give the same answers and leave
+// the same machine and store in either order, wherever in a list they stand. Below is `effects`, which has what each call reads and
+// rewrites, and whether it reaches memory. Above are promises, which states the theorem, and the programs that ask.
+// It carries RULES 8.6 (No. 7).
 use calls::Call;
-use rows::Span;
-use rows::Spans;
+use effects::Span;
+use effects::Spans;
 ghost use mathlib.Core.Path.{_≡_};
 ghost use Prim.Native.Nat.{_+_, _≤_, max, min};
-ghost use Rattle.rows.specs.Rows.{inSpan, inSpans, Inside};
+ghost use Rattle.effects.specs.Rows.{inSpan, inSpans, Inside};
 ghost use Rattle.neighbours.specs.Dependent.{common, dependent};
 
 fn later(x: usize, y: usize) -> usize
@@ -57,17 +57,17 @@ fn rows_meet(row: Spans, other: Spans) -> bool
         | span_meets_row(row.four, other)
 }
 
-// Whether one of the calls rewrites a place that the other reads or rewrites, or both reach memory. If not, they may change places.
+// Whether a place is rewritten by one call and read or rewritten by the other, or both reach memory (RULES 8.6). If not, they may be exchanged.
 pub fn depends(a: Call, b: Call) -> bool
     ensures { λ r. ⌜ r ≡ dependent a b ⌝ }
 {
-    if rows::reaches_memory(a) & rows::reaches_memory(b) {
+    if effects::reaches_memory(a) & effects::reaches_memory(b) {
         return true;
     }
-    let reads = rows::reads_of(a);
-    let rewrites = rows::rewrites_of(a);
-    let other_reads = rows::reads_of(b);
-    let other_rewrites = rows::rewrites_of(b);
+    let reads = effects::reads_of(a);
+    let rewrites = effects::rewrites_of(a);
+    let other_reads = effects::reads_of(b);
+    let other_rewrites = effects::rewrites_of(b);
     rows_meet(rewrites, other_reads)
         | rows_meet(rewrites, other_rewrites)
         | rows_meet(other_rewrites, reads)

@@ -1,7 +1,8 @@
-// The speed program: the calls of the machine in loops, one row to a kind of call, each turn's input made from the answers before it, so that no
-// call can be left out. With no argument every row runs a few turns and its name and sum are printed; with a row's number and a count of turns
-// that row is run, its name and sum go to standard output, and the microseconds of processor time that it took to standard error.
-// oracle/src/pace.rs does the same over the Rust, and tools/pace runs both. The crate stands on the machine, its texts and the report.
+// The speed program: the calls of the machine (RULES 8.2), the texts (6) and the report (8.5, 8.6) in loops, one row to a kind of call,
+// each turn's input made from the answers before it, so that no call can be left out. With no argument every row runs a few turns and its
+// name and sum are printed; with a row's number and a count of turns that row is run, its name and sum go to standard output, and the
+// microseconds of processor time that it took to standard error. oracle/src/pace.rs does the same over the Rust, and tools/pace runs
+// both. The crate stands on the machine, its texts and the report; it carries no rule, and docs/SPEED.md has what it measures.
 use libc::STDERR_FILENO;
 use libc::STDOUT_FILENO;
 

@@ -7,7 +7,8 @@ use machine_state::MachineState;
 // Where the rows' pages begin: past the screen, which shows what is written to it.
 const FIRST: u64 = 0x10_0000;
 
-// A row touches the first 64 + 8 bytes of its pages. The mask of an address over 1, 16 or 512 pages: the page's number and the place in it.
+// A row touches the first 64 + 8 bytes of its pages. The mask of an address over 1, 16 or 512 pages: the page's number and the offset in
+// it.
 const ONE: u64 = 0x3F;
 
 const SIXTEEN: u64 = 0xF03F;
@@ -121,7 +122,7 @@ fn with(register: Register, value: u64) -> MachineState {
         .machine
 }
 
-// The tables of 01's example, which take 0x40200000 to 0x600000. Returns the slots in use.
+// The tables of the example of the walk (RULES 10.9), which take 0x40200000 to 0x600000. Returns the slots in use.
 fn tables(dir: &mut [u64], bytes: &mut [u8]) -> usize {
     let m = MachineState::new();
     let one = m.mem_write(0x1000, &[0x03, 0x20], dir, bytes, 0);
@@ -147,6 +148,7 @@ fn filled_writes(pages: u64, mask: u64, turns: u64, dir: &mut [u64], bytes: &mut
     writes(mask, turns, dir, bytes, used)
 }
 
+// The sum of rows 0 to 7, over so many turns.
 pub(crate) fn run(row: u64, turns: u64, dir: &mut [u64], bytes: &mut [u8]) -> u64 {
     match row {
         0 => filled_reads(1, ONE, turns, dir, bytes),

@@ -1,4 +1,5 @@
-// Registers, flags, arithmetic and addresses. Where a row's name is known, the compiler sees which register it is; elsewhere the sum picks it.
+// Registers, flags, arithmetic and addresses. Where a row's name is known, the compiler sees which register it is; elsewhere the sum
+// picks it.
 use super::mix;
 use arithmetic::Operation;
 use instruction_set::ArgumentSize;
@@ -211,6 +212,7 @@ fn addresses(turns: u64) -> u64 {
     sum
 }
 
+// The sum of rows 8 to 15, over so many turns.
 pub(crate) fn run(row: u64, turns: u64) -> u64 {
     match row {
         8 => gets_known(turns),

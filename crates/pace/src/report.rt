@@ -1,5 +1,5 @@
-// The exposed report of 64 calls: each turn puts another call into the list, and the sum takes in one place of the report. And whether two calls are
-// dependent: one by the sum, the other from the list.
+// The exposed report of 64 calls: each turn puts another call into the list, and the sum takes in one place of the report. And whether
+// two calls are dependent: one by the sum, the other from the list.
 use super::mix;
 use super::registers::any_name;
 use super::registers::any_operand;
@@ -62,6 +62,7 @@ fn place(report: Report, k: usize) -> u64 {
     0
 }
 
+// A turn is a report of 64 calls, one of which is new.
 pub(crate) fn reports(turns: u64) -> u64 {
     let mut list = some_calls();
     let mut sum: u64 = 1;
@@ -78,6 +79,7 @@ pub(crate) fn reports(turns: u64) -> u64 {
     sum
 }
 
+// A turn asks of two calls whether they are dependent.
 pub(crate) fn dependences(turns: u64) -> u64 {
     let list = some_calls();
     let mut sum: u64 = 1;

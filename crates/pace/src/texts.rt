@@ -1,9 +1,10 @@
-// Texts of operands and of the state: the sum takes in the length and eight bytes. Texts of operands read back: it takes in the operand's words.
+// Texts of operands and of the state: the sum takes in the length and eight bytes. Texts of operands read back: it takes in the operand's
+// words.
 use super::mix;
 use super::registers::any_operand;
 use super::registers::some_machine;
 use instruction_set::ArgumentSize;
-use operand_reading::Read;
+use reading_operands::Read;
 use text::Text;
 
 fn length_of(said: Text) -> u64 {
@@ -13,6 +14,7 @@ fn length_of(said: Text) -> u64 {
     }
 }
 
+// A turn prints the operand that the sum picks.
 pub(crate) fn operands(turns: u64) -> u64 {
     let mut sum: u64 = 1;
     let mut i: u64 = 0;
@@ -35,7 +37,8 @@ pub(crate) fn operands(turns: u64) -> u64 {
     sum
 }
 
-// Puts 64 texts into places of 32 bytes: each displacement with each name once as the base and once as the index, 19.5 bytes on the average.
+// Puts 64 texts into stretches of 32 bytes: each displacement with each name once as the base and once as the index, 19.5 bytes on the
+// average.
 fn put_texts(texts: &mut [u8; 2048], lengths: &mut [u64; 64]) {
     let mut k: usize = 0;
     while k < 64 {
@@ -45,7 +48,7 @@ fn put_texts(texts: &mut [u8; 2048], lengths: &mut [u64; 64]) {
             + name * 0x100_0000_0000
             + 5 * name % 16 * 0x1000_0000_0000;
         let said = text::format(any_operand(x), ArgumentSize::Bit64, &mut out);
-        runs::copy(texts, 32 * k, &out, 0, 32);
+        byte_runs::copy(texts, 32 * k, &out, 0, 32);
         lengths[k] = length_of(said);
         k += 1;
     }
@@ -55,7 +58,7 @@ fn put_texts(texts: &mut [u8; 2048], lengths: &mut [u64; 64]) {
 fn with_operand(sum: u64, found: Read) -> u64 {
     match found {
         Read::Operands(first, _) => {
-            let w = records::operand_words(first);
+            let w = wire_records::operand_words(first);
             mix(
                 mix(mix(mix(mix(sum, w[0]), w[1]), w[2]), w[3]),
                 w[4] % 0x1_0000_0000,
@@ -71,10 +74,11 @@ fn read_one(sum: u64, texts: &[u8; 2048], lengths: &[u64; 64]) -> u64 {
     let n = (lengths[k] % 32) as usize;
     let at = 32 * k;
     let all = &texts[..];
-    let found = operand_reading::read_operands(&all[at..at + n]);
+    let found = reading_operands::read_operands(&all[at..at + n]);
     with_operand(sum, found)
 }
 
+// A turn reads one of 64 operand texts back.
 pub(crate) fn read_back(turns: u64) -> u64 {
     let mut texts = [0u8; 2048];
     let mut lengths = [0u64; 64];
@@ -88,6 +92,7 @@ pub(crate) fn read_back(turns: u64) -> u64 {
     sum
 }
 
+// A turn prints the state of a machine whose rax is the sum.
 pub(crate) fn states(turns: u64) -> u64 {
     let mut now = some_machine(turns);
     let mut out = [0u8; 577];

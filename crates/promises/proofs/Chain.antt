@@ -30,15 +30,15 @@ use Rattle.machine_state.specs.Answers.{Value, word}
 use Rattle.machine_state.specs.Flagged.{flagIn}
 use Rattle.machine_state.specs.Operating.{operated}
 use Rattle.calls.specs.Step.{step}
-use Rattle.rows.specs.Exposed.{Seen, end, rewritten, trace}
-use Rattle.rows.specs.Places.{Act, State, Sound, Reply, rewrites, reads, reachesMemory, storeIn, placeIn, SoundState, does}
-use Rattle.rows.specs.Rows.{flagPlace}
-use Rattle.rows.proofs.Forgotten.{kept}
-use Rattle.rows.proofs.Owed.{owed}
-use Rattle.rows.proofs.Places.{place-flag}
-use Rattle.rows.proofs.Theorem.{stays-sound, ends-sound}
+use Rattle.effects.specs.Exposed.{Seen, end, rewritten, trace}
+use Rattle.effects.specs.Places.{Act, State, WellTyped, CallAnswer, rewrites, reads, reachesMemory, storeIn, placeIn, WellTypedState, does}
+use Rattle.effects.specs.Rows.{flagPlace}
+use Rattle.effects.proofs.Forgotten.{kept}
+use Rattle.effects.proofs.Owed.{owed}
+use Rattle.effects.proofs.Places.{place-flag}
+use Rattle.effects.proofs.Theorem.{stays-well-typed, ends-well-typed}
 use Rattle.promises.specs.Chain.{Link, widthOf, totalWidth, numberBy, firstNumber, secondNumber, joined, operation, callsOf}
-use Rattle.promises.specs.Chain.{CarryKept, ofOperations, outcomeSeen, Gives, AddChain, SubtractChain, NoWords}
+use Rattle.promises.specs.Chain.{CarryKept, ofOperations, outcomeSeen, ChainGives, AddChain, SubtractChain, NoWords}
 
 data Chained : Type 0 where
   sums : Chained
@@ -186,13 +186,13 @@ hands-on differences SubtractWithBorrow k x c (last e) =
     ∙ ap (λ (b : Bool). pairWorked differences k b .carry) e
 
 -- calls that do not rewrite Carry leave it
-carry-kept : (acts : List Act) (x : State) → Sound (x .machine) → rewritten rewrites acts (flagPlace Carry) ≡ false
+carry-kept : (acts : List Act) (x : State) → WellTyped (x .machine) → rewritten rewrites acts (flagPlace Carry) ≡ false
     → flagIn (end does acts x .machine) Carry ≡ flagIn (x .machine) Carry
 unfolding bitSet
 carry-kept acts x g h =
     ap (λ (v : ℕ). eqb v 1)
     (sym (place-flag (end does acts x .machine) Carry)
-    ∙ kept reads rewrites reachesMemory does storeIn placeIn SoundState owed acts x (flagPlace Carry) g h
+    ∙ kept reads rewrites reachesMemory does storeIn placeIn WellTypedState owed acts x (flagPlace Carry) g h
     ∙ place-flag (x .machine) Carry)
 
 -- ---- lists one after the other
@@ -211,20 +211,20 @@ seen-after (a ∷ some) more x = seen-after some more (does a x .after)
 abbrev next : Operation → Link → State → State
 next o k x = end does (k .between) (does (operation o k) x .after)
 
-next-sound : (o : Operation) (k : Link) (x : State) → Sound (x .machine) → Sound (next o k x .machine)
-next-sound o k x g = ends-sound (k .between) (does (operation o k) x .after) (stays-sound (operation o k) x g)
+next-sound : (o : Operation) (k : Link) (x : State) → WellTyped (x .machine) → WellTyped (next o k x .machine)
+next-sound o k x g = ends-well-typed (k .between) (does (operation o k) x .after) (stays-well-typed (operation o k) x g)
 
-next-carry : (d : Chained) (o : Operation) (k : Link) (x : State) (c : Bool) → Sound (x .machine)
+next-carry : (d : Chained) (o : Operation) (k : Link) (x : State) (c : Bool) → WellTyped (x .machine)
     → rewritten rewrites (k .between) (flagPlace Carry) ≡ false → Takes d o x c
     → flagIn (next o k x .machine) Carry ≡ pairWorked d k c .carry
 next-carry d o k x c g h t =
-    carry-kept (k .between) (does (operation o k) x .after) (stays-sound (operation o k) x g) h ∙ hands-on d o k x c t
+    carry-kept (k .between) (does (operation o k) x .after) (stays-well-typed (operation o k) x g) h ∙ hands-on d o k x c t
 
 -- ---- the chain
 abbrev answered : List ℕ → List (Outcome Value)
 answered = map (λ v. gives (word v ∷ []))
 
-answers-are : (d : Chained) (ks : List Link) (o : Operation) (x : State) (c : Bool) → Sound (x .machine) → CarryKept ks → Takes d o x c
+answers-are : (d : Chained) (ks : List Link) (o : Operation) (x : State) (c : Bool) → WellTyped (x .machine) → CarryKept ks → Takes d o x c
     → map outcomeSeen (ofOperations ks (trace does storeIn (callsOf o (restOf d) ks) x)) ≡ answered (valuesFrom d c ks)
 unfolding ofOperations trace callsOf valuesFrom CarryKept
 answers-are d [] o x c g q t = refl
@@ -232,10 +232,10 @@ answers-are d (k ∷ ks) o x c g q t =
     let r = restOf d in
     let y = does (operation o k) x .after in
     ap₂ (λ (v : Outcome Value) (vs : List (Outcome Value)). v ∷ vs) (says d o k x c t)
-    (ap (λ (l : List (Seen Reply Store)). map outcomeSeen (ofOperations ks l)) (seen-after (k .between) (callsOf r r ks) y)
+    (ap (λ (l : List (Seen CallAnswer Store)). map outcomeSeen (ofOperations ks l)) (seen-after (k .between) (callsOf r r ks) y)
     ∙ answers-are d ks r (next o k x) (pairWorked d k c .carry) (next-sound o k x g) (q .1) (last (next-carry d o k x c g (q .0) t)))
 
-carry-is : (d : Chained) (ks : List Link) (x : State) (c : Bool) → Sound (x .machine) → CarryKept ks → flagIn (x .machine) Carry ≡ c
+carry-is : (d : Chained) (ks : List Link) (x : State) (c : Bool) → WellTyped (x .machine) → CarryKept ks → flagIn (x .machine) Carry ≡ c
     → flagIn (end does (callsOf (restOf d) (restOf d) ks) x .machine) Carry ≡ carriedOut d c ks
 unfolding callsOf carriedOut CarryKept end
 carry-is d [] x c g q e = e
@@ -244,7 +244,7 @@ carry-is d (k ∷ ks) x c g q e =
     ap (λ (y : State). flagIn (y .machine) Carry) (end-both (k .between) (callsOf r r ks) (does (operation r k) x .after))
     ∙ carry-is d ks (next r k x) (pairWorked d k c .carry) (next-sound r k x g) (q .1) (next-carry d r k x c g (q .0) (last e))
 
-first-carry : (d : Chained) (k : Link) (ks : List Link) (x : State) → Sound (x .machine) → CarryKept (k ∷ ks)
+first-carry : (d : Chained) (k : Link) (ks : List Link) (x : State) → WellTyped (x .machine) → CarryKept (k ∷ ks)
     → flagIn (end does (callsOf (startOf d) (restOf d) (k ∷ ks)) x .machine) Carry ≡ carriedOut d false (k ∷ ks)
 unfolding callsOf carriedOut CarryKept end
 first-carry d k ks x g q =
@@ -253,8 +253,8 @@ first-carry d k ks x g q =
     ap (λ (y : State). flagIn (y .machine) Carry) (end-both (k .between) (callsOf r r ks) (does (operation o k) x .after))
     ∙ carry-is d ks (next o k x) (pairWorked d k false .carry) (next-sound o k x g) (q .1) (next-carry d o k x false g (q .0) none)
 
-chain : (d : Chained) (k : Link) (ks : List Link) (x : State) → Sound (x .machine) → CarryKept (k ∷ ks)
-    → Gives (startOf d) (restOf d) (k ∷ ks) x (joined (k ∷ ks) (valuesFrom d false (k ∷ ks))) (carriedOut d false (k ∷ ks))
+chain : (d : Chained) (k : Link) (ks : List Link) (x : State) → WellTyped (x .machine) → CarryKept (k ∷ ks)
+    → ChainGives (startOf d) (restOf d) (k ∷ ks) x (joined (k ∷ ks) (valuesFrom d false (k ∷ ks))) (carriedOut d false (k ∷ ks))
 chain d k ks x g q =
     record {
       values = valuesFrom d false (k ∷ ks);

@@ -19,42 +19,42 @@ use Rattle.fields.specs.Parts.{memoryValue}
 use Rattle.arithmetic.specs.declared.Operation.{Operation}
 use Rattle.arithmetic.specs.declared.Operation.the-variants.{Add, AddWithCarry, Subtract, SubtractWithBorrow, Compare}
 use Rattle.mmu.specs.Calls.{readOutcome, readOut, writeOutcome, writeStore, shownOf}
-use Rattle.store.specs.Store.{Store, sound, live, unused, touched, absentOf, slotsLacking}
+use Rattle.store.specs.Store.{Store, isStore, pagesInUse, unused, touched, absentOf, slotsLacking}
 use Rattle.walk.specs.Walk.{physical}
 use Rattle.machine_state.specs.Address.{addressOf}
-use Rattle.machine_state.specs.Answers.{outcomeOf, After}
-use Rattle.machine_state.specs.Memory.{after, passed, cr3, rsp, below, readMemory, writeMemory, valued, withValue, loaded, storedAt}
-use Rattle.machine_state.specs.Memory.{readOperand, writeOperand, moved, pushed, popped}
+use Rattle.machine_state.specs.Answers.{outcomeOf, Result}
+use Rattle.machine_state.specs.Memory.{leaves, wordOutcome, cr3, rsp, minus64, readMemory, writeMemory, valued, withValue, loaded, storedAt}
+use Rattle.machine_state.specs.Memory.{readOperand, writeOperand, rspIfAccepted, pushed, popped}
 use Rattle.machine_state.specs.Operating.{operated}
 use Rattle.machine_state.specs.declared.Event.the-variants.{Quiet}
 use Rattle.machine_state.specs.declared.MachineState.{MachineState}
-use Rattle.calls.specs.Step.{step, beside}
+use Rattle.calls.specs.Step.{step, withLent}
 use Rattle.calls.specs.declared.Call.the-variants.{ReadOperand, WriteOperand, EffectiveAddress, Push, Pop, ReadMemory, WriteMemory}
 use Rattle.calls.specs.declared.Call.the-variants.{TestFlag, SetFlag, ComputeFlags, ComputeSizedFlags, Arithmetic}
 use Rattle.promises.specs.Refusals.{writing, atOperand, accessOf}
 use Rattle.promises.specs.SlotsLacking.{lackingFor, saidWith}
-use Rattle.promises.specs.Untouched.{Untouched, RefusedUntouched}
+use Rattle.promises.specs.Demand1.{Untouched, RefusedUntouched}
 
 -- ---- what memory's outcomes say: 6 how many slots lack, and nothing else
-read-says : (s : Store) (n k : ℕ) → passed (readOutcome s n) .values ≡ saidWith (readOutcome s n .number) k
+read-says : (s : Store) (n k : ℕ) → wordOutcome (readOutcome s n) .values ≡ saidWith (readOutcome s n .number) k
 unfolding readOutcome
-read-says s n k = go (sound s) (leb n 4096)
+read-says s n k = go (isStore s) (leb n 4096)
   where
-    go : (a b : Bool) → (let o = cond a (cond b (gives []) (refuses 5)) (refuses 4) in passed o .values ≡ saidWith (o .number) k)
+    go : (a b : Bool) → (let o = cond a (cond b (gives []) (refuses 5)) (refuses 4) in wordOutcome o .values ≡ saidWith (o .number) k)
     go true true = refl
     go true false = refl
     go false b = refl
 
-write-says : (s : Store) (p n : ℕ) → passed (writeOutcome s p n) .values ≡ saidWith (writeOutcome s p n .number) (slotsLacking s p n)
+write-says : (s : Store) (p n : ℕ) → wordOutcome (writeOutcome s p n) .values ≡ saidWith (writeOutcome s p n .number) (slotsLacking s p n)
 unfolding writeOutcome
-write-says s p n = go (sound s) (leb n 4096) (leb (absentOf (live s) (touched p n)) (unused s))
+write-says s p n = go (isStore s) (leb n 4096) (leb (absentOf (pagesInUse s) (touched p n)) (unused s))
   where
     k : ℕ
     k = slotsLacking s p n
 
     go : (a b c : Bool)
         → (let o = cond a (cond b (cond c (gives []) (refusesWith 6 (k ∷ []))) (refuses 5)) (refuses 4) in
-        passed o .values ≡ saidWith (o .number) k)
+        wordOutcome o .values ≡ saidWith (o .number) k)
     go true true true = refl
     go true true false = refl
     go true false c = refl
@@ -85,8 +85,8 @@ module _ (m : MachineState) (s : Store) (a : ℕ) (l : List ℕ) where
       }
 
 -- ---- a value given, rsp moved, other bytes beside
-module _ (m : MachineState) (s : Store) (l : List ℕ) (k : ℕ) (r : After) where
-  beside-untouched : (g : List ℕ) → Untouched m s l k r → Untouched m s g k (beside g r)
+module _ (m : MachineState) (s : Store) (l : List ℕ) (k : ℕ) (r : Result) where
+  beside-untouched : (g : List ℕ) → Untouched m s l k r → Untouched m s g k (withLent g r)
   beside-untouched g u = record { machine = u .machine; store = u .store; lent = refl; event = u .event; values = u .values }
 
   valued-refused : (v : ℕ) → (valued (r .outcome) v .number ≡ 0 → ⊥) → (r .outcome .number ≡ 0 → ⊥)
@@ -101,7 +101,7 @@ module _ (m : MachineState) (s : Store) (l : List ℕ) (k : ℕ) (r : After) whe
     values = rw (ne-eqb (r .outcome .number) 0 (valued-refused v h)) (u .values);
   }
 
-  moved-untouched : (x : ℕ) → (r .outcome .number ≡ 0 → ⊥) → Untouched m s l k r → Untouched m s l k (moved r x)
+  moved-untouched : (x : ℕ) → (r .outcome .number ≡ 0 → ⊥) → Untouched m s l k r → Untouched m s l k (rspIfAccepted r x)
   moved-untouched x h u = record {
     machine = rw (ne-eqb (r .outcome .number) 0 h) (u .machine);
     store = u .store;
@@ -127,7 +127,7 @@ store-untouched m s a z v h =
     beside-untouched m s d _ (writeMemory m s a d) [] (write-untouched m s a d h)
 
 -- ---- operands
-plain : (m : MachineState) (s : Store) (l : List ℕ) (k n : ℕ) → eqb n 6 ≡ false → Untouched m s l k (after m s l Quiet (refuses n))
+plain : (m : MachineState) (s : Store) (l : List ℕ) (k n : ℕ) → eqb n 6 ≡ false → Untouched m s l k (leaves m s l Quiet (refuses n))
 plain m s l k n e = record { machine = refl; store = refl; lent = refl; event = refl; values = rw e }
 
 operand-read : (m : MachineState) (s : Store) (a : InstructionArgument) (z : ArgumentSize) (k : ℕ)
@@ -149,7 +149,7 @@ operand-written m s (arg.EffectiveAddress b reg.Absent k d) z v h = store-untouc
 operand-written m s (arg.EffectiveAddress b (reg.Present r) by.Absent d) z v h = plain m s [] _ 3 refl
 operand-written m s (arg.EffectiveAddress b (reg.Present r) (by.Present n) d) z v h = store-untouched m s _ z v h
 
-addressed : (m : MachineState) (s : Store) (l : List ℕ) (a : InstructionArgument) (k : ℕ) → (passed (addressOf m a) .number ≡ 0 → ⊥)
+addressed : (m : MachineState) (s : Store) (l : List ℕ) (a : InstructionArgument) (k : ℕ) → (wordOutcome (addressOf m a) .number ≡ 0 → ⊥)
     → Untouched m s l k (step (EffectiveAddress a) m s l)
 unfolding step addressOf
 addressed m s l (arg.Register r) k h = plain m s l k 1 refl
@@ -173,8 +173,8 @@ refused-untouched (ReadOperand a z) m s l h = beside-untouched m s [] _ (readOpe
 refused-untouched (WriteOperand a z v) m s l h = beside-untouched m s [] _ (writeOperand m s a z v) l (operand-written m s a z v h)
 refused-untouched (EffectiveAddress a) m s l h = addressed m s l a _ h
 refused-untouched Push m s l h =
-    let w = writeMemory m s (below (rsp m) (length l)) l in
-    moved-untouched m s l _ w (below (rsp m) (length l)) h (write-untouched m s (below (rsp m) (length l)) l h)
+    let w = writeMemory m s (minus64 (rsp m) (length l)) l in
+    moved-untouched m s l _ w (minus64 (rsp m) (length l)) h (write-untouched m s (minus64 (rsp m) (length l)) l h)
 refused-untouched Pop m s l h =
     let r = loaded m s (rsp m) Bit64 in
     beside-untouched m s [] _ (popped m s) l (moved-untouched m s [] _ r _ h (load-untouched m s (rsp m) Bit64 _ h))

@@ -33,16 +33,16 @@ use Rattle.fields.proofs.FlagLaws.{flag-back}
 use Rattle.arithmetic.specs.Sums.{workedAt, flagsOf, computedOf}
 use Rattle.arithmetic.specs.declared.Sum.{Sum}
 use Rattle.mmu.specs.Calls.{readOutcome, readOut, writeOutcome, writeStore}
-use Rattle.store.specs.Store.{Store, sound, byteAt}
+use Rattle.store.specs.Store.{Store, isStore, byteAt}
 use Rattle.walk.specs.Walk.{physical}
 use Rattle.mmu.proofs.Answers.{read-done, out-done, accepts-only, write-accepted}
 use Rattle.mmu.proofs.Laws.{law-out, law-byte, law-read, law-sound, law-walk, law-count}
 use Rattle.walk.proofs.Walked.{physical-off}
 use Rattle.machine_state.specs.Address.{addressOf}
-use Rattle.machine_state.specs.Answers.{Value, word, After}
+use Rattle.machine_state.specs.Answers.{Value, word, Result}
 use Rattle.machine_state.specs.Flagged.{setFlag}
-use Rattle.machine_state.specs.Memory.{rsp, cr3, withRsp, after, passed, readMemory, writeMemory, loaded, storedAt, readOperand}
-use Rattle.machine_state.specs.Memory.{writeOperand, below, pushed, popped}
+use Rattle.machine_state.specs.Memory.{rsp, cr3, withRsp, leaves, wordOutcome, readMemory, writeMemory, loaded, storedAt, readOperand}
+use Rattle.machine_state.specs.Memory.{writeOperand, minus64, pushed, popped}
 use Rattle.machine_state.specs.Operating.{operated}
 use Rattle.machine_state.specs.declared.Event.the-variants.{Quiet}
 use Rattle.machine_state.specs.declared.MachineState.{MachineState}
@@ -51,16 +51,16 @@ use Rattle.calls.specs.Step.{step}
 use Rattle.calls.specs.declared.Call.{Call}
 use Rattle.calls.specs.declared.Call.the-variants.{ReadOperand, WriteOperand, EffectiveAddress, Push, Pop, ReadMemory, WriteMemory}
 use Rattle.calls.specs.declared.Call.the-variants.{TestFlag, SetFlag, ComputeFlags, ComputeSizedFlags, Arithmetic}
-use Rattle.rows.specs.Exposed.{end}
-use Rattle.rows.specs.Places.{Act, State, Sound, place, does, rewrites}
-use Rattle.rows.specs.Rows.{nothing as noSpans, flagPlace, flagSpan, rewriteSpan, threeFlags, rewritesOf, inSpan, inSpans}
-use Rattle.rows.proofs.Owed.{owes, three-flags}
-use Rattle.rows.proofs.Places.{Renews, write-new, flag-new, flag-renews, resulted, flagged, rsp-written}
-use Rattle.rows.proofs.Theorem.{stays-sound}
-use Rattle.rows.proofs.Within.{in-low, in-high, one-only, fiveInTurn, five-flags, nothing-in}
-use Rattle.promises.specs.Demand2.{ReadsBack, WalkStays, OthersStay, PopsBack, RegistersBack, OperandsBack, FlagsBack, Given}
-use Rattle.promises.specs.Demand2.{nothing, ifSo, holding, last, byteWritten, byteGiven, BytesLast, resultFlagAt, placeValue}
-use Rattle.promises.specs.Demand2.{placeGiven, PlacesLast, slotsFor, slotsTaken, allTaken, CountRule}
+use Rattle.effects.specs.Exposed.{end}
+use Rattle.effects.specs.Places.{Act, State, WellTyped, place, does, rewrites}
+use Rattle.effects.specs.Rows.{nothing as noSpans, flagPlace, flagSpan, rewriteSpan, threeFlags, rewritesOf, inSpan, inSpans}
+use Rattle.effects.proofs.Owed.{owes, three-flags}
+use Rattle.effects.proofs.Places.{Renews, write-new, flag-new, flag-renews, resulted, flagged, rsp-written}
+use Rattle.effects.proofs.Theorem.{stays-well-typed}
+use Rattle.effects.proofs.Within.{in-low, in-high, one-only, fiveInTurn, five-flags, nothing-in}
+use Rattle.promises.specs.Demand2.{MemoryReadsBack, WalkStays, OthersStay, PopsBack, RegistersBack, OperandsBack, FlagsBack}
+use Rattle.promises.specs.Demand2.{GivenValue, nothing, ifSo, holding, lastGiven, byteWritten, byteGiven, BytesLast, resultFlagAt}
+use Rattle.promises.specs.Demand2.{placeValue, placeGiven, PlacesLast, slotsFor, slotsTaken, allTaken, CountRule}
 use Rattle.promises.specs.Refusals.{Access, none, reading, writing, accessOf}
 use Rattle.promises.proofs.Demand1.{refused-untouched}
 
@@ -71,7 +71,7 @@ module _ (m : MachineState) (s : Store) (a : ℕ) (d : List ℕ) (e : accepted (
   fits = write-accepted s (physical s (cr3 m) a) (length d) (eqb-true (writeOutcome s (physical s (cr3 m) a) (length d) .number) 0 e)
 
   -- the store stays one
-  pub sound-after : sound (writeMemory m s a d .store) ≡ true
+  pub sound-after : isStore (writeMemory m s a d .store) ≡ true
   unfolding writeMemory
   sound-after = law-sound s (physical s (cr3 m) a) d fits
 
@@ -88,12 +88,12 @@ module _ (m : MachineState) (s : Store) (a : ℕ) (d : List ℕ) (e : accepted (
       let t = writeStore s (physical s (cr3 m) a) d in
       out-done t (cr3 m) a out (read-after out n) ∙ rw (w, n) (law-read s (physical s (cr3 m) a) d fits)
 
-pub reads-accepted : (m : MachineState) (s : Store) (a : ℕ) (out : List ℕ) → sound s ≡ true → length out ≤ 4096
+pub reads-accepted : (m : MachineState) (s : Store) (a : ℕ) (out : List ℕ) → isStore s ≡ true → length out ≤ 4096
     → readMemory m s a out .outcome ≡ gives []
 unfolding readMemory
-reads-accepted m s a out h n = ap passed (read-done s (length out) h n)
+reads-accepted m s a out h n = ap wordOutcome (read-done s (length out) h n)
 
-pub reads-back : ReadsBack
+pub reads-back : MemoryReadsBack
 unfolding readMemory
 reads-back m s a d out e n w = read-back m s a d e out n w
 
@@ -121,7 +121,7 @@ pub registers-back : RegistersBack
 registers-back m r v h = write-read m r v h
 
 -- ---- a push and then a pop
-module _ (m : MachineState) (g : Sound m) where
+module _ (m : MachineState) (g : WellTyped m) where
   rsp-set : (x : ℕ) → rsp (withRsp m x) ≡ x
   rsp-set x = getD-set-same (m .regs) 4 x 0 (omega (arith, g .parents))
 
@@ -134,16 +134,16 @@ module _ (m : MachineState) (g : Sound m) where
       set-set (m .regs) 4 x y ∙ ap (λ (v : ℕ). set (m .regs) 4 v) e ∙ set-getD (m .regs) 4 0 in
       λ i. record { regs = regs i; rflags = m .rflags; gdt = m .gdt; idt = m .idt }
 
-  up-again : (below (rsp m) 8 + 8) % 2 ^ 64 ≡ rsp m
+  up-again : (minus64 (rsp m) 8 + 8) % 2 ^ 64 ≡ rsp m
   up-again = let h = g .words 4 (omega arith) in omega arith
 
 loaded-is : (m : MachineState) (s : Store) (a : ℕ) (d : List ℕ) → readOutcome s 8 ≡ gives [] → readOut s (cr3 m) a (replicate 8 0) ≡ d
-    → loaded m s a Bit64 ≡ after m s [] Quiet (gives (word (fromBytes d) ∷ []))
+    → loaded m s a Bit64 ≡ leaves m s [] Quiet (gives (word (fromBytes d) ∷ []))
 unfolding loaded readMemory
 loaded-is m s a d e f = rw (e, f)
 
-popped-is : (n : MachineState) (s : Store) (v : ℕ) → loaded n s (rsp n) Bit64 ≡ after n s [] Quiet (gives (word v ∷ []))
-    → popped n s ≡ after (withRsp n ((rsp n + 8) % 2 ^ 64)) s [] Quiet (gives (word v ∷ []))
+popped-is : (n : MachineState) (s : Store) (v : ℕ) → loaded n s (rsp n) Bit64 ≡ leaves n s [] Quiet (gives (word v ∷ []))
+    → popped n s ≡ leaves (withRsp n ((rsp n + 8) % 2 ^ 64)) s [] Quiet (gives (word v ∷ []))
 unfolding popped
 popped-is n s v e = rw e
 
@@ -154,27 +154,28 @@ write-machine m s a d = refl
 pub pops-back : PopsBack
 unfolding pushed
 pops-back m s d g n e w =
-    let x = below (rsp m) 8 in
-    let there : below (rsp m) (length d) ≡ x = ap (below (rsp m)) n in
+    let x = minus64 (rsp m) 8 in
+    let there : minus64 (rsp m) (length d) ≡ x = ap (minus64 (rsp m)) n in
     rw (e, there, write-machine m s x d)
     (let o : accepted (writeMemory m s x d .outcome) ≡ true = rw there at e in
     let t = writeMemory m s x d .store in
     let z = replicate {A = ℕ} 8 0 in
     let k = withRsp m x in
     let b : readOut t (cr3 k) x z ≡ d = rw (cr3-kept m g x) (read-back m s x d o z (sym n) (rw there at w)) in
-    let r : loaded k t (rsp k) Bit64 ≡ after k t [] Quiet (gives (word (fromBytes d) ∷ [])) =
+    let r : loaded k t (rsp k) Bit64 ≡ leaves k t [] Quiet (gives (word (fromBytes d) ∷ [])) =
     rw (rsp-set m g x) (loaded-is k t x d (read-after m s x d o z (sym n)) b) in
-    popped-is k t (fromBytes d) r ∙ ap (λ (y : MachineState). after y t [] Quiet (gives (word (fromBytes d) ∷ [])))
+    popped-is k t (fromBytes d) r ∙ ap (λ (y : MachineState). leaves y t [] Quiet (gives (word (fromBytes d) ∷ [])))
     (rsp-back m g x ((rsp k + 8) % 2 ^ 64) (ap (λ (v : ℕ). (v + 8) % 2 ^ 64) (rsp-set m g x) ∙ up-again m g)))
 
 -- ---- lists: what holds of each call holds of the list
-last-is : (given : Act → State → Given) (of : State → ℕ) (Good : State → Type 0) → ((a : Act) (x : State) → Good x → Good (does a x .after))
+last-is : (given : Act → State → GivenValue) (of : State → ℕ) (Good : State → Type 0)
+    → ((a : Act) (x : State) → Good x → Good (does a x .after))
     → ((a : Act) (x : State) → Good x → of (does a x .after) ≡ holding (given a x) (of x))
-    → (acts : List Act) (x : State) → Good x → of (end does acts x) ≡ last given acts x (of x)
-unfolding end last
+    → (acts : List Act) (x : State) → Good x → of (end does acts x) ≡ lastGiven given acts x (of x)
+unfolding end lastGiven
 last-is given of Good keep one [] x g = refl
 last-is given of Good keep one (a ∷ acts) x g =
-    last-is given of Good keep one acts (does a x .after) (keep a x g) ∙ ap (last given acts (does a x .after)) (one a x g)
+    last-is given of Good keep one acts (does a x .after) (keep a x g) ∙ ap (lastGiven given acts (does a x .after)) (one a x g)
 
 -- ---- memory: the store after a call is what its access leaves, and a writing call answers what its write does
 abbrev pub storeBy : MachineState → Store → Access → Store
@@ -185,7 +186,7 @@ storeBy m s (writing x d) = writeStore s (physical s (cr3 m) x) d
 abbrev pub OutcomeBy : MachineState → Store → Outcome Value → Access → Type 0
 OutcomeBy m s o none = Unit {0}
 OutcomeBy m s o (reading x n) = Unit {0}
-OutcomeBy m s o (writing x d) = o ≡ passed (writeOutcome s (physical s (cr3 m) x) (length d))
+OutcomeBy m s o (writing x d) = o ≡ wordOutcome (writeOutcome s (physical s (cr3 m) x) (length d))
 
 pub record Accessed (c : Call) (m : MachineState) (s : Store) (l : List ℕ) : Type 0 where
   pub store : step c m s l .store ≡ storeBy m s (accessOf c m l)
@@ -293,7 +294,7 @@ unfolding cut
 bit-kept true = refl
 bit-kept false = refl
 
-module _ (m : MachineState) (g : Sound m) (p : ℕ) where
+module _ (m : MachineState) (g : WellTyped m) (p : ℕ) where
   rsp-new : (x : ℕ) → x < 2 ^ 64 → inSpan (rewriteSpan RSP) p ≡ true → place (withRsp m x) p ≡ lane (p - 32) x
   unfolding row
   rsp-new x lt h =
@@ -323,7 +324,7 @@ heldAt (s ∷ ss) p v = heldAt ss p (cond (inSpan (flagSpan (s .flag)) p) (boolB
 nowhere : ℕ → Bool
 nowhere p = false
 
-all-set : (ss : List Setting) (m : MachineState) (p v : ℕ) → Sound m → place m p ≡ v → place (setAll ss m) p ≡ heldAt ss p v
+all-set : (ss : List Setting) (m : MachineState) (p v : ℕ) → WellTyped m → place m p ≡ v → place (setAll ss m) p ≡ heldAt ss p v
 all-set [] m p v g e = e
 all-set (s ∷ ss) m p v g e =
     all-set ss (setFlag m (s .flag) (s .bit)) p _ (renewed .good m g) (go (tested (inSpan (flagSpan (s .flag)) p)))
@@ -360,7 +361,7 @@ at-some P w (f ∷ fs) p first all h = at-some P (λ q. w q || inSpan (flagSpan 
     go (inr n) e = subst P (at-flag f p (rw n at e)) (all .0)
 
 -- the flags of a result: Zero, then Sign, then Parity
-result-new : (m : MachineState) (b : Bool) (v : ℕ) (z : ArgumentSize) (p : ℕ) → Sound m → inSpans threeFlags p ≡ true
+result-new : (m : MachineState) (b : Bool) (v : ℕ) (z : ArgumentSize) (p : ℕ) → WellTyped m → inSpans threeFlags p ≡ true
     → place (resulted b v z m) p ≡ resultFlagAt b v z p
 unfolding inSpan
 result-new m b v z p g h =
@@ -375,7 +376,7 @@ result-new m b v z p g h =
     Found k = heldAt settings k (place m k) ≡ resultFlagAt b v z k
 
 -- an operation sets Carry, Parity, Zero, Sign, Overflow
-operated-new : (m : MachineState) (z : ArgumentSize) (r : Sum) (p : ℕ) → Sound m → fiveInTurn p ≡ true
+operated-new : (m : MachineState) (z : ArgumentSize) (r : Sum) (p : ℕ) → WellTyped m → fiveInTurn p ≡ true
     → place (flagged z r m) p
     ≡ boolBit (getD (r .carry ∷ evenOnes (r .value) ∷ eqb (r .value) 0 ∷ signIn z (r .value) ∷ false ∷ r .overflow ∷ []) (p - 176) false)
 unfolding inSpan flagsOf
@@ -403,7 +404,7 @@ no-row p x y h = let z : inSpans noSpans p ≡ false = nothing-in p in let w : x
 word-lt : (x : ℕ) → x % 2 ^ 64 < 2 ^ 64
 word-lt x = mod-lt x (pow-pos 64)
 
-place-new : (c : Call) (m : MachineState) (s : Store) (l : List ℕ) (p : ℕ) → Sound m → accepted (step c m s l .outcome) ≡ true
+place-new : (c : Call) (m : MachineState) (s : Store) (l : List ℕ) (p : ℕ) → WellTyped m → accepted (step c m s l .outcome) ≡ true
     → inSpans (rewritesOf c) p ≡ true
     → place (step c m s l .machine) p ≡ placeValue c m l p
 unfolding step readOperand writeOperand pushed popped loaded readMemory writeMemory operated computedOf rewritesOf placeValue row
@@ -412,7 +413,7 @@ place-new (WriteOperand (arg.Register r) z v) m s l p g o h = write-new r v m p 
 place-new (WriteOperand (arg.Immediate x) z v) m s l p g o h = no-row p _ _ h
 place-new (WriteOperand (arg.EffectiveAddress b i k d) z v) m s l p g o h = no-row p _ _ h
 place-new (EffectiveAddress a) m s l p g o h = no-row p _ _ h
-place-new Push m s l p g o h = rw o (rsp-new m g p (below (rsp m) (length l)) (word-lt _) (sym (one-only (rewriteSpan RSP) p) ∙ h))
+place-new Push m s l p g o h = rw o (rsp-new m g p (minus64 (rsp m) (length l)) (word-lt _) (sym (one-only (rewriteSpan RSP) p) ∙ h))
 place-new Pop m s l p g o h = rw o (rsp-new m g p ((rsp m + 8) % 2 ^ 64) (word-lt _) (sym (one-only (rewriteSpan RSP) p) ∙ h))
 place-new (ReadMemory a) m s l p g o h = no-row p _ _ h
 place-new (WriteMemory a) m s l p g o h = no-row p _ _ h
@@ -422,12 +423,12 @@ place-new (ComputeFlags v z) m s l p g o h = result-new m (eqb v 0) v z p g h
 place-new (ComputeSizedFlags v z) m s l p g o h = result-new m (eqb (lowBits z v) 0) v z p g h
 place-new (Arithmetic o e a b) m s l p g w h = operated-new m e (workedAt (m .rflags) o e a b) p g (sym (five-flags p) ∙ h)
 
-one-place : (p : ℕ) (a : Act) (x : State) → Sound (x .machine)
+one-place : (p : ℕ) (a : Act) (x : State) → WellTyped (x .machine)
     → place (does a x .after .machine) p ≡ holding (placeGiven p a x) (place (x .machine) p)
 unfolding does rewrites
 one-place p a x g = go (tested (inSpans (rewritesOf (a .call)) p)) (tested (accepted (r .outcome)))
   where
-    r : After
+    r : Result
     r = step (a .call) (x .machine) (x .store) (a .lent)
 
     v : ℕ
@@ -446,4 +447,4 @@ one-place p a x g = go (tested (inSpans (rewritesOf (a .call)) p)) (tested (acce
 
 pub places-last : PlacesLast
 places-last acts x p g =
-    last-is (placeGiven p) (λ y. place (y .machine) p) (λ y. Sound (y .machine)) stays-sound (λ a y k. one-place p a y k) acts x g
+    last-is (placeGiven p) (λ y. place (y .machine) p) (λ y. WellTyped (y .machine)) stays-well-typed (λ a y k. one-place p a y k) acts x g

@@ -1,8 +1,8 @@
--- Demand 3, from the crates rows and exposed. Assumes nothing.
+-- Demand 3, from the crates `effects` and exposed (RULES 8.4, 8.5). Assumes nothing.
 use mathlib.Core.List.{List}
 use Prim.Native.Nat.{ℕ}
-use Rattle.rows.specs.Places.{Act}
-use Rattle.rows.proofs.Theorem as theorem
+use Rattle.effects.specs.Places.{Act}
+use Rattle.effects.proofs.Theorem as theorem
 use Rattle.exposed.proofs.Exact as exact
 use Rattle.promises.specs.Demand3.{ForgottenReaders, ExposedMeans, ReportExact}
 

@@ -30,9 +30,9 @@ use Rattle.machine_state.specs.Operating.{operated}
 use Rattle.machine_state.specs.declared.MachineState.{MachineState}
 use Rattle.calls.specs.Step.{step}
 use Rattle.calls.specs.declared.Call.the-variants.{Arithmetic}
-use Rattle.rows.specs.Exposed.{exposed, rewritten}
-use Rattle.rows.specs.Places.{Act, reads, rewrites}
-use Rattle.rows.specs.Rows.{readsOf, rewritesOf, inSpan, inSpans}
+use Rattle.effects.specs.Exposed.{exposed, rewritten}
+use Rattle.effects.specs.Places.{Act, reads, rewrites}
+use Rattle.effects.specs.Rows.{readsOf, rewritesOf, inSpan, inSpans}
 use Rattle.promises.specs.Dropped.{DropExposes, HalvesDropped, CarrySeen}
 
 -- ---- lists one after the other

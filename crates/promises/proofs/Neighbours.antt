@@ -1,11 +1,11 @@
--- No. 7 of 02, from the crate neighbours; the pairs by computing. Assumes nothing.
+-- RULES 8.6, from the crate neighbours; the pairs by computing. Assumes nothing.
 use mathlib.Core.Bool.{Bool}
 use mathlib.Core.Path.{refl}
 use Prim.Native.Nat.{ℕ}
 use Rattle.instruction_set.specs.Registers.{row}
 use Rattle.instruction_set.specs.declared.ArgumentSize.{ArgumentSize}
 use Rattle.calls.specs.declared.Call.{Call}
-use Rattle.rows.specs.Rows.{readsOf, rewritesOf, reaches, inSpan, inSpans}
+use Rattle.effects.specs.Rows.{readsOf, rewritesOf, reaches, inSpan, inSpans}
 use Rattle.neighbours.specs.Dependent.{some, common, meets, dependent}
 use Rattle.neighbours.proofs.Tabled as tabled
 use Rattle.promises.specs.Neighbours.{DependentMeans, NeighboursSwap, NeighboursExchange, Pairs}

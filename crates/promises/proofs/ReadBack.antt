@@ -1,5 +1,5 @@
--- The promises of No. 1, from the one answer that a text has (operand_reading/proofs/Answers.antt) and from what print leaves of operands
--- (Printed.antt there); the table of places by computing the reader. Assumes nothing.
+-- The promises of text read back, from the one answer that a text has (reading_operands/proofs/Answers.antt) and from what print leaves of
+-- operands (Printed.antt there); the table of texts by computing the reader. Assumes nothing.
 use mathlib.Core.Bool.{false}
 use mathlib.Core.List.{List, [], _∷_}
 use mathlib.Core.Path.{_≡_, refl, sym, ap, subst, _∙_}
@@ -10,20 +10,20 @@ use Rattle.instruction_set.specs.declared.ArgumentSize.the-variants.{Bit64}
 use Rattle.instruction_set.specs.declared.InstructionArgument.{InstructionArgument}
 use Rattle.instruction_set.specs.declared.SomeArgument.{SomeArgument}
 use Rattle.instruction_set.specs.declared.SomeArgument.the-variants as some
-use Rattle.operand_text.specs.Operands.{listText}
-use Rattle.numbers.specs.Numbers.{registerAt}
-use Rattle.register_names.specs.Names.{nameOf}
-use Rattle.number_reading.specs.Numerals.{digitValue, firstDigit, nextDigit, positiveBits, negativeBits, scaleOf}
-use Rattle.name_reading.specs.Nodes.{nextNode, placeIn, spelt, beginnings, registerOf}
-use Rattle.operand_reading.specs.Reads.{Lossless, OfSecond, Reads, Finding, operandsOutcome}
-use Rattle.operand_reading.specs.Reader.{advanced, readFrom, answerOf}
-use Rattle.operand_reading.specs.declared.Read.{Read}
-use Rattle.operand_reading.specs.declared.Read.the-variants.{Operands, NotOperandText}
-use Rattle.operand_reading.proofs.Answers.{answered, one-answer, outcome-one}
-use Rattle.operand_reading.proofs.Running.{apart}
-use Rattle.operand_reading.proofs.Printed.{same-list, shows-lossless, printed-of}
-use Rattle.promises.specs.ReadBack.{PrintsAgain, OneReading, OneAnswer, ReadsBack, AcceptedExactly, Place}
-use Rattle.promises.specs.ReadBack.{Example, examples, EachSays}
+use Rattle.text_operands.specs.Operands.{listText}
+use Rattle.wire_numbers.specs.Numbers.{registerAt}
+use Rattle.text_names.specs.Names.{nameOf}
+use Rattle.reading_numbers.specs.Numerals.{digitValue, firstDigit, nextDigit, positiveBits, negativeBits, scaleOf}
+use Rattle.reading_names.specs.Nodes.{nextNode, indexIn, spelt, beginnings, registerOf}
+use Rattle.reading_operands.specs.Reads.{Lossless, OfSecond, Reads, Finding, operandsOutcome}
+use Rattle.reading_operands.specs.Reader.{advanced, readFrom, readerAnswer}
+use Rattle.reading_operands.specs.declared.Read.{Read}
+use Rattle.reading_operands.specs.declared.Read.the-variants.{Operands, NotOperandText}
+use Rattle.reading_operands.proofs.Answers.{answered, one-answer, outcome-one}
+use Rattle.reading_operands.proofs.Running.{apart}
+use Rattle.reading_operands.proofs.Printed.{same-list, shows-lossless, printed-of}
+use Rattle.promises.specs.ReadBack.{PrintsAgain, OneReading, OneAnswer, OperandsReadBack, TextAcceptedExactly, OffsetGiven}
+use Rattle.promises.specs.ReadBack.{Example, readingExamples, EachHolds}
 
 -- an answer is what it says
 said-so : (t : List ℕ) (r s : Read) → Reads t r → operandsOutcome r ≡ operandsOutcome s → Reads t s
@@ -48,42 +48,42 @@ one-reading size size′ x x′ y y′ hx hy hx′ hy′ e =
     operands-one (one-answer (listText size x y) (Operands x y) (Operands x′ y′) left right)
 
 pub exactly-one : OneAnswer
-exactly-one t = ((answerOf t, answered t), one-answer t)
+exactly-one t = ((readerAnswer t, answered t), one-answer t)
 
-pub reads-back : ReadsBack
+pub reads-back : OperandsReadBack
 reads-back size x y hx hy r h =
     ap operandsOutcome (one-answer (listText size x y) r (Operands x y) h (shows-lossless size x y hx hy))
 
-pub accepted-exactly : AcceptedExactly
+pub accepted-exactly : TextAcceptedExactly
 accepted-exactly t (Operands x y) h = ((λ p. refl), (λ e. printed-of t x y h))
 accepted-exactly t (NotOperandText k) h = ((λ p. absurd (h .refused p)), (λ e. apart cc))
 
-pub place-given : Place
-place-given t (Operands x y) h none = absurd (none (printed-of t x y h))
-place-given t (NotOperandText k) h none = (k, refl, h)
+pub offset-given : OffsetGiven
+offset-given t (Operands x y) h none = absurd (none (printed-of t x y h))
+offset-given t (NotOperandText k) h none = (k, refl, h)
 
 -- ---- the table
-answers : (t : List ℕ) (o : Outcome Finding) → operandsOutcome (answerOf t) ≡ o → (r : Read) → Reads t r → operandsOutcome r ≡ o
-answers t o e r h = ap operandsOutcome (one-answer t r (answerOf t) h (answered t)) ∙ e
+answers : (t : List ℕ) (o : Outcome Finding) → operandsOutcome (readerAnswer t) ≡ o → (r : Read) → Reads t r → operandsOutcome r ≡ o
+answers t o e r h = ap operandsOutcome (one-answer t r (readerAnswer t) h (answered t)) ∙ e
 
 EachComputes : List Example → Type 0
 EachComputes [] = Unit {0}
-EachComputes (e ∷ es) = (operandsOutcome (answerOf (e .text)) ≡ e .says) × EachComputes es
+EachComputes (e ∷ es) = (operandsOutcome (readerAnswer (e .text)) ≡ e .outcome) × EachComputes es
 
-each-says : (es : List Example) → EachComputes es → EachSays es
+each-says : (es : List Example) → EachComputes es → EachHolds es
 unfolding EachComputes
 each-says [] h = tt
-each-says (e ∷ es) h = (answers (e .text) (e .says) (h .0), each-says es (h .1))
+each-says (e ∷ es) h = (answers (e .text) (e .outcome) (h .0), each-says es (h .1))
 
 infixr 4 _and_
 _and_ : {A B : Type 0} → A → B → A × B
 _and_ a b = (a, b)
 
-pub examples-hold : EachSays examples
+pub examples-hold : EachHolds readingExamples
 unfolding EachComputes readFrom advanced digitValue firstDigit nextDigit positiveBits negativeBits scaleOf
-    nextNode placeIn spelt beginnings registerOf registerAt nameOf
+    nextNode indexIn spelt beginnings registerOf registerAt nameOf
 examples-hold =
-    each-says examples
+    each-says readingExamples
     (refl and refl and refl and refl and refl and refl and refl and refl and refl and refl and refl and refl and refl and refl and refl
     and refl and refl and refl and refl and refl and refl and refl and refl and refl and refl and refl and refl and refl and refl and refl
     and tt)

@@ -1,4 +1,5 @@
--- 01's refusals in their order, of every tabled call: memory's two outcomes by their tests, then a call at a time. Assumes nothing.
+-- The refusals in their order (RULES 7.2), of every tabled call: memory's two outcomes by their tests, then a call at a time. Assumes
+-- nothing.
 use mathlib.Core.Bool.{Bool, true, false, cond, not, _&&_}
 use mathlib.Core.List.{List, [], _∷_}
 use mathlib.Core.Logic.{_⊎_, inl, inr}
@@ -19,18 +20,18 @@ use Rattle.instruction_set.specs.declared.InstructionArgument.the-variants as a
 use Rattle.instruction_set.specs.declared.SomeRegister.the-variants as reg
 use Rattle.instruction_set.specs.declared.SomeScale.the-variants as by
 use Rattle.mmu.specs.Calls.{readOutcome, writeOutcome}
-use Rattle.store.specs.Store.{Store, sound, live, unused, touched, absentOf, slotsLacking}
+use Rattle.store.specs.Store.{Store, isStore, pagesInUse, unused, touched, absentOf, slotsLacking}
 use Rattle.walk.specs.Walk.{physical}
 use Rattle.machine_state.specs.Address.{addressOf}
 use Rattle.machine_state.specs.Answers.{Value}
-use Rattle.machine_state.specs.Memory.{passed, cr3, rsp, below, readMemory, writeMemory, valued, loaded, storedAt, readOperand}
+use Rattle.machine_state.specs.Memory.{wordOutcome, cr3, rsp, minus64, readMemory, writeMemory, valued, loaded, storedAt, readOperand}
 use Rattle.machine_state.specs.Memory.{writeOperand, pushed, popped}
 use Rattle.machine_state.specs.declared.MachineState.{MachineState}
 use Rattle.calls.specs.Step.{step}
 use Rattle.calls.specs.declared.Call.{Call}
 use Rattle.calls.specs.declared.Call.the-variants.{ReadOperand, WriteOperand, EffectiveAddress, Push, Pop, ReadMemory, WriteMemory}
 use Rattle.calls.specs.declared.Call.the-variants.{TestFlag, SetFlag, ComputeFlags, ComputeSizedFlags, Arithmetic}
-use Rattle.rows.specs.Rows.{reaches}
+use Rattle.effects.specs.Rows.{reaches}
 use Rattle.promises.specs.Refusals.{accessOf, Check, check, checks, firstHeld, noneHolds, RefusedInOrder, AcceptedExactly}
 use Rattle.promises.proofs.Demand1.{never-refused}
 
@@ -43,9 +44,9 @@ not-over a b = go (tested (ltb b a))
     go (inr f) = let h = ltb-false b a f in rw f (le-leb a b h)
 
 read-number : (s : Store) (n : ℕ)
-    → readOutcome s n .number ≡ firstHeld (check 4 (not (sound s)) ∷ check 5 (ltb 4096 n) ∷ check 6 false ∷ [])
+    → readOutcome s n .number ≡ firstHeld (check 4 (not (isStore s)) ∷ check 5 (ltb 4096 n) ∷ check 6 false ∷ [])
 unfolding readOutcome
-read-number s n = rw (not-over n 4096) (go (sound s) (ltb 4096 n))
+read-number s n = rw (not-over n 4096) (go (isStore s) (ltb 4096 n))
   where
     go : (a b : Bool) → cond a (cond (not b) (gives {X = ℕ} []) (refuses 5)) (refuses 4) .number ≡ cond (not a) 4 (cond b 5 0)
     go true true = refl
@@ -54,11 +55,11 @@ read-number s n = rw (not-over n 4096) (go (sound s) (ltb 4096 n))
 
 write-number : (s : Store) (p n : ℕ)
     → writeOutcome s p n .number
-    ≡ firstHeld (check 4 (not (sound s)) ∷ check 5 (ltb 4096 n) ∷ check 6 (ltb (unused s) (absentOf (live s) (touched p n))) ∷ [])
+    ≡ firstHeld (check 4 (not (isStore s)) ∷ check 5 (ltb 4096 n) ∷ check 6 (ltb (unused s) (absentOf (pagesInUse s) (touched p n))) ∷ [])
 unfolding writeOutcome
 write-number s p n =
-    rw (not-over n 4096, not-over (absentOf (live s) (touched p n)) (unused s))
-    (go (sound s) (ltb 4096 n) (ltb (unused s) (absentOf (live s) (touched p n))))
+    rw (not-over n 4096, not-over (absentOf (pagesInUse s) (touched p n)) (unused s))
+    (go (isStore s) (ltb 4096 n) (ltb (unused s) (absentOf (pagesInUse s) (touched p n))))
   where
     go : (a b c : Bool)
         → cond a (cond (not b) (cond (not c) (gives []) (refusesWith 6 (slotsLacking s p n ∷ []))) (refuses 5)) (refuses 4) .number
@@ -77,17 +78,17 @@ valued-number o v = go (tested (eqb (o .number) 0))
     go (inr f) = rw f refl
 
 load-number : (m : MachineState) (s : Store) (a : ℕ) (z : ArgumentSize)
-    → loaded m s a z .outcome .number ≡ firstHeld (check 4 (not (sound s)) ∷ check 5 (ltb 4096 (bytesOf z)) ∷ check 6 false ∷ [])
+    → loaded m s a z .outcome .number ≡ firstHeld (check 4 (not (isStore s)) ∷ check 5 (ltb 4096 (bytesOf z)) ∷ check 6 false ∷ [])
 unfolding loaded readMemory
 load-number m s a z =
-    valued-number (passed (readOutcome s (length (replicate {A = ℕ} (bytesOf z) 0)))) _
+    valued-number (wordOutcome (readOutcome s (length (replicate {A = ℕ} (bytesOf z) 0)))) _
     ∙ ap (λ (n : ℕ). readOutcome s n .number) (length-replicate (bytesOf z) 0)
     ∙ read-number s (bytesOf z)
 
 store-number : (m : MachineState) (s : Store) (a : ℕ) (z : ArgumentSize) (v : ℕ)
     → storedAt m s a z v .outcome .number
-    ≡ firstHeld (check 4 (not (sound s)) ∷ check 5 (ltb 4096 (length (toBytes (bytesOf z) v)))
-    ∷ check 6 (ltb (unused s) (absentOf (live s) (touched (physical s (cr3 m) a) (length (toBytes (bytesOf z) v))))) ∷ [])
+    ≡ firstHeld (check 4 (not (isStore s)) ∷ check 5 (ltb 4096 (length (toBytes (bytesOf z) v)))
+    ∷ check 6 (ltb (unused s) (absentOf (pagesInUse s) (touched (physical s (cr3 m) a) (length (toBytes (bytesOf z) v))))) ∷ [])
 unfolding storedAt writeMemory
 store-number m s a z v = write-number s (physical s (cr3 m) a) (length (toBytes (bytesOf z) v))
 
@@ -125,7 +126,7 @@ unfolding step pushed popped readMemory writeMemory accessOf reaches
 refused-in-order (ReadOperand a z) m s l = operand-read a z m s l
 refused-in-order (WriteOperand a z v) m s l = operand-written a z v m s l
 refused-in-order (EffectiveAddress a) m s l = addressed a m s l
-refused-in-order Push m s l = write-number s (physical s (cr3 m) (below (rsp m) (length l))) (length l)
+refused-in-order Push m s l = write-number s (physical s (cr3 m) (minus64 (rsp m) (length l))) (length l)
 refused-in-order Pop m s l = load-number m s (rsp m) Bit64
 refused-in-order (ReadMemory a) m s l = read-number s (length l)
 refused-in-order (WriteMemory a) m s l = write-number s (physical s (cr3 m) a) (length l)

@@ -28,21 +28,21 @@ use Rattle.arithmetic.proofs.Left.{flags-stand, worked-low}
 use Rattle.arithmetic.proofs.Widths.{bits-within}
 use Rattle.machine_state.specs.Answers.{Value, word, outcomeOf}
 use Rattle.machine_state.specs.Machine.{withFlags}
-use Rattle.machine_state.specs.Memory.{after}
+use Rattle.machine_state.specs.Memory.{leaves}
 use Rattle.machine_state.specs.Operating.{operated}
 use Rattle.machine_state.specs.declared.Answer.the-variants as answer
 use Rattle.machine_state.specs.declared.Event.the-variants.{Quiet}
 use Rattle.calls.specs.Step.{step}
-use Rattle.promises.specs.SizedFlags.{Alike, FormsAgree, OneAtBit64, ZeroAlone, DifferExactly, AnswersTold, sizedExamples}
-use Rattle.promises.specs.Table.{valuesOf, left, right}
+use Rattle.promises.specs.SizedFlags.{FormsAlike, FormsAgree, OneAtBit64, ZeroAlone, DifferExactly, AnswersTold, sizedExamples}
+use Rattle.promises.specs.Table.{valuesOf, allComputed, allStated}
 
 pub zero-alone : ZeroAlone
 unfolding step
-zero-alone z v m s l = ap (λ (x : ℕ). after (withFlags m x) s l Quiet (gives [])) (zero-anew z v (m .rflags))
+zero-alone z v m s l = ap (λ (x : ℕ). leaves (withFlags m x) s l Quiet (gives [])) (zero-anew z v (m .rflags))
 
-alike : (z : ArgumentSize) (v : ℕ) → (lowBits z v ≡ 0 → v ≡ 0) → Alike z v
+alike : (z : ArgumentSize) (v : ℕ) → (lowBits z v ≡ 0 → v ≡ 0) → FormsAlike z v
 unfolding step
-alike z v h m s l = ap (λ (b : Bool). after (withFlags m (resultFlags (m .rflags) b v z)) s l Quiet (gives [])) (zero-told z v h)
+alike z v h m s l = ap (λ (b : Bool). leaves (withFlags m (resultFlags (m .rflags) b v z)) s l Quiet (gives [])) (zero-told z v h)
 
 pub forms-agree : FormsAgree
 forms-agree z v (inl h) = alike z v (zero-extended z v h)
@@ -75,7 +75,7 @@ unfolding step operated computedOf
 answers-told o z a b v m s l e =
     record {
       alike = forms-agree z v (inr (sym is ∙ ap (extend w) (sym low)));
-      stand = λ t k. ap (λ (x : ℕ). after (withFlags m x) t k Quiet (gives [])) (flags-stand (m .rflags) z r v low);
+      stand = λ t k. ap (λ (x : ℕ). leaves (withFlags m x) t k Quiet (gives [])) (flags-stand (m .rflags) z r v low);
     }
   where
     w : ℕ
@@ -92,6 +92,6 @@ answers-told o z a b v m s l e =
         ap (lowBits z) (sym is) ∙ cut-bottom (extend w (r .value)) w ∙ extend-back w (r .value) (bits-within z) ∙ worked-low o w _ _ _
 
 -- ---- the examples, all in one claim, which the checker computes
-pub sized-examples-hold : left sizedExamples ≡ right sizedExamples
+pub sized-examples-hold : allComputed sizedExamples ≡ allStated sizedExamples
 unfolding step bitSet putFlag evenOnes ones onesIn cut put
 sized-examples-hold = refl

@@ -1,6 +1,6 @@
--- No. 5 of 02. When 6 is given: from the numbers in their order (Refusals), of which 6 is the last. What it says: from demand 1. A store
--- that grows: a call that is refused with 6 writes, so it answers what its write does (Demand2's `accessed`), and the write's law is mmu's
--- (Grown). Assumes nothing.
+-- RULES 7.5 and 7.6. When 6 is given: from the numbers in their order (Refusals), of which 6 is the last. What it says: from demand 1. A
+-- store that grows: a call that is refused with 6 writes, so it answers what its write does (Demand2's `accessed`), and the write's law
+-- is mmu's (Grown). Assumes nothing.
 use mathlib.Core.Bool.{Bool, true, false, _&&_}
 use mathlib.Core.List.{List, [], _∷_, _++_, append-assoc}
 use mathlib.Core.Logic.{_⊎_, inl, inr}
@@ -16,15 +16,15 @@ use Rattle.utils.specs.Outcome.{Outcome, gives, refusesWith}
 use Rattle.utils.specs.Word.{cut, put, extend}
 use Rattle.instruction_set.specs.Registers.{row}
 use Rattle.fields.specs.Parts.{readOf, writeOf}
-use Rattle.runs.specs.Runs.{tabulate}
-use Rattle.store.specs.Store.{Store, sound, live, unused, seek, foundIn, byteAt, readAt, pagesFrom, touched, absentOf, withSlots}
-use Rattle.walk.specs.Walk.{entryPlace, wordAt, nextTable, walked, physical}
+use Rattle.byte_runs.specs.Runs.{tabulate}
+use Rattle.store.specs.Store.{Store, isStore, pagesInUse, unused, seek, foundIn, byteAt, readAt, pagesFrom, touched, absentOf, withSlots}
+use Rattle.walk.specs.Walk.{entryAddress, wordAt, nextTable, walked, physical}
 use Rattle.mmu.specs.Calls.{writeOutcome, writeStore}
 use Rattle.mmu.proofs.Grown.{lacks-only, grown-walk, grown-enough, grown-short, grown-full}
 use Rattle.machine_state.specs.Address.{addressOf}
 use Rattle.machine_state.specs.Answers.{Value, word}
 use Rattle.machine_state.specs.Machine.{readReg, writeReg}
-use Rattle.machine_state.specs.Memory.{passed, cr3, writeMemory, storedAt, writeOperand, pushed}
+use Rattle.machine_state.specs.Memory.{wordOutcome, cr3, writeMemory, storedAt, writeOperand, pushed}
 use Rattle.machine_state.specs.declared.MachineState.{MachineState}
 use Rattle.calls.specs.Step.{step}
 use Rattle.calls.specs.declared.Call.{Call}
@@ -34,7 +34,7 @@ use Rattle.promises.specs.Refusals.{Access, none, reading, writing, acce
 use Rattle.promises.specs.Refusals.{firstHeld, noneHolds}
 use Rattle.promises.specs.SlotsLacking.{lackingFor, saidWith, LackingSaid, checkedBefore, SixAsBefore, MoreSlots}
 use Rattle.promises.specs.SlotsLacking.{noSlots, lackingTable}
-use Rattle.promises.specs.Table.{valuesOf, oneSlot, twoSlots, eighty, tables, left, right}
+use Rattle.promises.specs.Table.{valuesOf, oneSlot, twoSlots, eighty, pageTables, allComputed, allStated}
 use Rattle.promises.proofs.Demand1.{refused-untouched}
 use Rattle.promises.proofs.Demand2.{storeBy, OutcomeBy, accessed}
 use Rattle.promises.proofs.Refusals.{refused-in-order}
@@ -88,7 +88,7 @@ six-writes c m s l e =
 -- ---- what it says
 some-lack : (m : MachineState) (s : Store) (g : Access) → noRoom m s g ≡ true → 1 ≤ lackingFor m s g
 some-lack m s (writing x d) h =
-    omega (arith, ltb-true (unused s) (absentOf (live s) (touched (physical s (cr3 m) x) (length d))) h)
+    omega (arith, ltb-true (unused s) (absentOf (pagesInUse s) (touched (physical s (cr3 m) x) (length d))) h)
 some-lack m s none h = let z : _≡_ {A = ℕ} 0 1 = cc in absurd (omega arith)
 some-lack m s (reading x n) h = let z : _≡_ {A = ℕ} 0 1 = cc in absurd (omega arith)
 
@@ -99,7 +99,7 @@ lacking-said c m s l e =
     let v = u .values ∙ ap (λ (n : ℕ). saidWith n (lackingFor m s g)) e in
     record {
       outcome = ap₂ {A = ℕ} {B = List Value} (λ n vs. refusesWith n vs) e v;
-      some = some-lack m s g (six-writes c m s l e);
+      atLeastOne = some-lack m s g (six-writes c m s l e);
     }
 
 -- ---- a store that grows: by the access, which is the same on both stores
@@ -118,10 +118,10 @@ module _ (m : MachineState) (s : Store) (ds bs : List ℕ) (sized : length bs �
       let p = physical s (cr3 m) x in
       let k = lacks-only s p (length d) (sym (ap (λ (w : Outcome Value). w .number) f) ∙ e) in
       let w = grown-walk s p (length d) k ds bs sized small (cr3 m) x in
-      let there = h ∙ ap (λ (y : ℕ). passed (writeOutcome (withSlots s ds bs) y (length d))) w in
+      let there = h ∙ ap (λ (y : ℕ). wordOutcome (writeOutcome (withSlots s ds bs) y (length d))) w in
       record {
-        accepted = λ le. there ∙ ap passed (grown-enough s p (length d) k ds bs sized small le);
-        fewer = λ lt. there ∙ ap passed (grown-short s p (length d) k ds bs sized small lt);
+        accepted = λ le. there ∙ ap wordOutcome (grown-enough s p (length d) k ds bs sized small le);
+        fewer = λ lt. there ∙ ap wordOutcome (grown-short s p (length d) k ds bs sized small lt);
         full = λ just. ap (λ (y : ℕ). writeStore (withSlots s ds bs) y d .used) w ∙ grown-full s p d k ds bs sized small just
             ∙ ap (λ (y : ℕ). length (s .dir) + y) just;
       }
@@ -147,23 +147,23 @@ more-slots c m s l n ds bs e sized small =
 abbrev some : {A : Type 0} → ℕ → ℕ → List A → List A
 some from n l = take n (drop from l)
 
-by-address : some 0 4 (left lackingTable) ≡ some 0 4 (right lackingTable)
-unfolding writeMemory writeOutcome noSlots oneSlot twoSlots eighty sound physical touched pagesFrom absentOf foundIn seek
+by-address : some 0 4 (allComputed lackingTable) ≡ some 0 4 (allStated lackingTable)
+unfolding writeMemory writeOutcome noSlots oneSlot twoSlots eighty isStore physical touched pagesFrom absentOf foundIn seek
 by-address = refl
 
-by-push : some 4 3 (left lackingTable) ≡ some 4 3 (right lackingTable)
-unfolding pushed writeMemory writeOutcome noSlots oneSlot eighty sound physical touched pagesFrom absentOf foundIn seek
+by-push : some 4 3 (allComputed lackingTable) ≡ some 4 3 (allStated lackingTable)
+unfolding pushed writeMemory writeOutcome noSlots oneSlot eighty isStore physical touched pagesFrom absentOf foundIn seek
 by-push = unfold writeReg writeOf row put in refl
 
-by-operand : some 7 3 (left lackingTable) ≡ some 7 3 (right lackingTable)
-unfolding writeMemory writeOutcome noSlots oneSlot eighty sound physical touched pagesFrom absentOf foundIn seek
+by-operand : some 7 3 (allComputed lackingTable) ≡ some 7 3 (allStated lackingTable)
+unfolding writeMemory writeOutcome noSlots oneSlot eighty isStore physical touched pagesFrom absentOf foundIn seek
 by-operand = unfold writeOperand storedAt toBytes addressOf readReg writeReg readOf writeOf row cut put extend in refl
 
-by-walk : some 10 3 (left lackingTable) ≡ some 10 3 (right lackingTable)
-unfolding writeMemory writeOutcome tables sound physical touched pagesFrom absentOf foundIn seek writeReg writeOf row put
-by-walk = unfold walked nextTable entryPlace cut wordAt fromBytes readAt tabulate byteAt in refl
+by-walk : some 10 3 (allComputed lackingTable) ≡ some 10 3 (allStated lackingTable)
+unfolding writeMemory writeOutcome pageTables isStore physical touched pagesFrom absentOf foundIn seek writeReg writeOf row put
+by-walk = unfold walked nextTable entryAddress cut wordAt fromBytes readAt tabulate byteAt in refl
 
-pub lacking-examples-hold : left lackingTable ≡ right lackingTable
+pub lacking-examples-hold : allComputed lackingTable ≡ allStated lackingTable
 lacking-examples-hold =
     ap₂ (λ (a b : List (List ℕ)). a ++ b) by-address
     (ap₂ (λ (a b : List (List ℕ)). a ++ b) by-push (ap₂ (λ (a b : List (List ℕ)). a ++ b) by-operand by-walk))

@@ -6,9 +6,9 @@ use Rattle.fields.specs.FlagBits.{bitSet, putFlag, evenOnes}
 use Rattle.arithmetic.specs.Sums.{signed, outside, added, subtracted, workedOf, flagsOf, computedOf}
 use Rattle.machine_state.specs.Operating.{operated}
 use Rattle.calls.specs.Step.{step}
-use Rattle.promises.specs.SumTable.{sums}
-use Rattle.promises.specs.Table.{left, right}
+use Rattle.promises.specs.SumTable.{sumTable}
+use Rattle.promises.specs.Table.{allComputed, allStated}
 
-pub sums-hold : left sums ≡ right sums
+pub sums-hold : allComputed sumTable ≡ allStated sumTable
 unfolding step operated computedOf workedOf flagsOf added subtracted signed outside bitSet putFlag evenOnes ones onesIn cut put extend
 sums-hold = refl

@@ -1,6 +1,7 @@
--- 02, No. 2, the chain: "words added lowest first, the first without carry, the rest with it, give the whole sum modulo two to the total
--- width, with Carry its carry out, if nothing rewrites Carry in between. No words: nothing changes." And the same of differences and their
--- borrow. What a call does is `step`, which `calls::perform` is proved to do; what it rewrites is its row.
+-- Chains of words (RULES 2.12 to 2.14; No. 2): words are added lowest first, the first pair without carry and the others with it. They
+-- give the whole sum modulo 2 to the total width, and Carry is what the whole carries out, if no call in between rewrites Carry; no words
+-- change nothing. And the same of differences and their borrow. What a call does is `step`, which `calls::perform` is proved to do; what
+-- it rewrites is its row.
 use mathlib.Core.Bool.{Bool, false}
 use mathlib.Core.List.{List, [], _∷_, _++_, map}
 use mathlib.Core.Path.{_≡_}
@@ -17,9 +18,9 @@ use Rattle.store.specs.Store.{Store}
 use Rattle.machine_state.specs.Answers.{Value, word}
 use Rattle.machine_state.specs.Flagged.{flagIn}
 use Rattle.calls.specs.declared.Call.the-variants.{Arithmetic}
-use Rattle.rows.specs.Exposed.{Seen, end, rewritten, trace}
-use Rattle.rows.specs.Places.{Act, State, Sound, Reply, rewrites, does, storeIn}
-use Rattle.rows.specs.Rows.{flagPlace}
+use Rattle.effects.specs.Exposed.{Seen, end, rewritten, trace}
+use Rattle.effects.specs.Places.{Act, State, WellTyped, CallAnswer, rewrites, does, storeIn}
+use Rattle.effects.specs.Rows.{flagPlace}
 
 -- ---- two numbers by words, lowest first, each pair of words of a size of its own
 -- a pair, the bytes lent to its call (which leaves them), and the calls that stand after it, before the next pair's; those after the last
@@ -34,7 +35,7 @@ pub record Link : Type 0 where
 abbrev pub widthOf : Link → ℕ
 widthOf k = 8 * bytesOf (k .size)
 
--- "the total width"
+-- how many bits all the words have
 unfoldable pub totalWidth : List Link → ℕ
 totalWidth [] = 0
 totalWidth (k ∷ ks) = widthOf k + totalWidth ks
@@ -64,7 +65,7 @@ unfoldable pub callsOf : Operation → Operation → List Link → List Act
 callsOf o r [] = []
 callsOf o r (k ∷ ks) = operation o k ∷ (k .between ++ callsOf r r ks)
 
--- "if nothing rewrites Carry in between", by the rows of the calls
+-- no call in between rewrites Carry, by the rows of the calls
 unfoldable pub CarryKept : List Link → Type 0
 CarryKept [] = Unit
 CarryKept (k ∷ ks) = (rewritten rewrites (k .between) (flagPlace Carry) ≡ false) × CarryKept ks
@@ -75,33 +76,39 @@ ofOperations [] seen = []
 ofOperations (k ∷ ks) [] = []
 ofOperations (k ∷ ks) (s ∷ seen) = s ∷ ofOperations ks (drop (length (k .between)) seen)
 
-abbrev pub outcomeSeen : Seen Reply Store → Outcome Value
+abbrev pub outcomeSeen : Seen CallAnswer Store → Outcome Value
 outcomeSeen s = s .answer .outcome
 
 -- ---- what a chain gives: the operations answer values that make up a number, and Carry is as told when the whole list is done
-pub record Gives (o r : Operation) (ks : List Link) (x : State) (number : ℕ) (carry : Bool) : Type 0 where
+pub record ChainGives (o r : Operation) (ks : List Link) (x : State) (number : ℕ) (carry : Bool) : Type 0 where
   pub values : List ℕ
   pub answers : map outcomeSeen (ofOperations ks (trace does storeIn (callsOf o r ks) x)) ≡ map (λ v. gives (word v ∷ [])) values
   pub whole : joined ks values ≡ number
   pub out : flagIn (end does (callsOf o r ks) x .machine) Carry ≡ carry
 
--- "the whole sum modulo two to the total width, with Carry its carry out"
+-- the whole sum modulo 2 to the total width, and Carry what it carries out
 abbrev pub AddChain : Type 0
 AddChain =
-    (k : Link) (ks : List Link) (x : State) → Sound (x .machine) → CarryKept (k ∷ ks) →
-    let w = totalWidth (k ∷ ks) in
+    (k : Link) (ks : List Link) (x : State)
+    → let w = totalWidth (k ∷ ks) in
     let sum = firstNumber (k ∷ ks) + secondNumber (k ∷ ks) in
-    Gives Add AddWithCarry (k ∷ ks) x (sum % 2 ^ w) (leb (2 ^ w) sum)
+    WellTyped (x .machine)
+    → CarryKept (k ∷ ks)
+    → ChainGives Add AddWithCarry (k ∷ ks) x (sum % 2 ^ w) (leb (2 ^ w) sum)
 
--- the whole difference modulo two to the total width, with Carry its borrow
+-- the whole difference modulo 2 to the total width, and Carry its borrow
 abbrev pub SubtractChain : Type 0
 SubtractChain =
-    (k : Link) (ks : List Link) (x : State) → Sound (x .machine) → CarryKept (k ∷ ks) →
-    let w = totalWidth (k ∷ ks) in
+    (k : Link) (ks : List Link) (x : State)
+    → let w = totalWidth (k ∷ ks) in
     let a = firstNumber (k ∷ ks) in
     let b = secondNumber (k ∷ ks) in
-    Gives Subtract SubtractWithBorrow (k ∷ ks) x ((a + 2 ^ w - b) % 2 ^ w) (ltb a b)
+    WellTyped (x .machine)
+    → CarryKept (k ∷ ks)
+    → ChainGives Subtract SubtractWithBorrow (k ∷ ks) x ((a + 2 ^ w - b) % 2 ^ w) (ltb a b)
 
--- "No words: nothing changes"
+-- no words: nothing changes
 abbrev pub NoWords : Type 0
-NoWords = (o r : Operation) (x : State) → end does (callsOf o r []) x ≡ x
+NoWords =
+    (o r : Operation) (x : State)
+    → end does (callsOf o r []) x ≡ x

@@ -1,5 +1,6 @@
--- What demand 3 says of the request's own case, in which a rule "drops the one that sets carry while the upper half of an addition still
--- reads it": for any place and any calls, and for Carry. A place is exposed by the rows (`exposed`, rows/specs/Exposed.antt).
+-- What demand 3 says of the case that it was asked for: a rule drops the call that sets a flag which a later call still reads. For any
+-- place and any calls, and for Carry between the halves of an addition. A place is exposed by the rows (`exposed`,
+-- effects/specs/Exposed.antt; RULES 8.4).
 use mathlib.Core.Bool.{true, false}
 use mathlib.Core.List.{List, _∷_, _++_}
 use mathlib.Core.Path.{_≡_}
@@ -13,9 +14,9 @@ use Rattle.machine_state.specs.Flagged.{setFlag}
 use Rattle.machine_state.specs.declared.MachineState.{MachineState}
 use Rattle.calls.specs.Step.{step}
 use Rattle.calls.specs.declared.Call.the-variants.{Arithmetic}
-use Rattle.rows.specs.Exposed.{exposed, rewritten}
-use Rattle.rows.specs.Places.{Act, reads, rewrites}
-use Rattle.rows.specs.Rows.{flagPlace}
+use Rattle.effects.specs.Exposed.{exposed, rewritten}
+use Rattle.effects.specs.Places.{Act, reads, rewrites}
+use Rattle.effects.specs.Rows.{flagPlace}
 use Rattle.promises.specs.Chain.{Link, operation}
 
 -- a call that sets p is dropped before one that reads it: the list then takes p for granted, where it did not before
@@ -27,14 +28,20 @@ pub record Dropped (before : List Act) (setter : Act) (between : List Act) (read
 abbrev pub DropExposes : Type 0
 DropExposes =
     (before : List Act) (setter : Act) (between : List Act) (reader : Act) (after : List Act) (p : ℕ)
-    → exposed reads rewrites before p ≡ false → rewritten rewrites before p ≡ false → reads setter p ≡ false → rewrites setter p ≡ true
-    → rewritten rewrites between p ≡ false → reads reader p ≡ true → Dropped before setter between reader after p
+    → exposed reads rewrites before p ≡ false
+    → rewritten rewrites before p ≡ false
+    → reads setter p ≡ false
+    → rewrites setter p ≡ true
+    → rewritten rewrites between p ≡ false
+    → reads reader p ≡ true
+    → Dropped before setter between reader after p
 
 -- the lower half is dropped before the upper half: place 176 is exposed
 abbrev pub CarryDropped : Operation → Operation → Type 0
 CarryDropped lower upper =
     (before : List Act) (low : Link) (between : List Act) (high : Link) (after : List Act)
-    → exposed reads rewrites before (flagPlace Carry) ≡ false → rewritten rewrites before (flagPlace Carry) ≡ false
+    → exposed reads rewrites before (flagPlace Carry) ≡ false
+    → rewritten rewrites before (flagPlace Carry) ≡ false
     → rewritten rewrites between (flagPlace Carry) ≡ false
     → Dropped before (operation lower low) between (operation upper high) after (flagPlace Carry)
 
@@ -46,4 +53,5 @@ abbrev pub CarrySeen : Type 0
 CarrySeen =
     (o : Operation) (z : ArgumentSize) (a b : ℕ) (m : MachineState) (s : Store) (l : List ℕ)
     → reads (record { call = Arithmetic o z a b; lent = l }) (flagPlace Carry) ≡ true
-    → step (Arithmetic o z a b) (setFlag m Carry true) s l .outcome ≡ step (Arithmetic o z a b) (setFlag m Carry false) s l .outcome → ⊥
+    → step (Arithmetic o z a b) (setFlag m Carry true) s l .outcome ≡ step (Arithmetic o z a b) (setFlag m Carry false) s l .outcome
+    → ⊥

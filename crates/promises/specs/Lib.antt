@@ -1,4 +1,4 @@
-pub mod Untouched
+pub mod Demand1
 pub mod Refusals
 pub mod Demand2
 pub mod Demand3

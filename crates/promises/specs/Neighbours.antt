@@ -1,5 +1,5 @@
--- No. 7 of 02, "Independent neighbours", sentence by sentence. What a call does is `step`, which `calls::perform` is proved to do; what it
--- reads, what it rewrites and whether it reaches memory is the table (rows/specs/Rows.antt); a machine of Rattle is `Sound` by its type.
+-- Independent neighbours (RULES 8.6; No. 7). What a call does is `step`, which `calls::perform` is proved to do; what it reads, what it
+-- rewrites and whether it reaches memory is the table (effects/specs/Rows.antt); a machine of Rattle is `WellTyped` by its type.
 use mathlib.Core.Bool.{Bool, true, false}
 use mathlib.Core.List.{List}
 use mathlib.Core.Path.{_≡_}
@@ -11,27 +11,31 @@ use Rattle.instruction_set.specs.declared.Register.the-variants.{AX, AL, AH, RS
 use Rattle.arithmetic.specs.declared.Operation.the-variants.{Add, AddWithCarry}
 use Rattle.calls.specs.declared.Call.{Call}
 use Rattle.calls.specs.declared.Call.the-variants.{ReadOperand, WriteOperand, Push, ReadMemory, TestFlag, SetFlag, Arithmetic}
-use Rattle.rows.specs.Places.{Act, State, Sound, does}
+use Rattle.effects.specs.Places.{Act, State, WellTyped, does}
 use Rattle.neighbours.specs.Dependent.{dependent, Dependent}
 use Rattle.neighbours.specs.Swapped.{Swapped, Exchanged}
 
--- "Two neighbouring calls are dependent if one rewrites a place that the other reads or rewrites, or if both reach memory": `dependent`,
--- the contract of `neighbours::depends`, is this sentence, and it does not matter which of the two comes first
+-- `dependent`, the contract of `neighbours::depends`, is the rule's sentence, and it does not matter which of the two comes first
 pub record DependentMeans (c d : Call) : Type 0 where
   pub only : dependent c d ≡ true → Dependent c d
   pub where-so : Dependent c d → dependent c d ≡ true
   pub either-way : dependent c d ≡ dependent d c
 
--- "Show that other neighbours can change places: each gives the same answer and event, and machine and store end equal. This is over all
--- the calls of demand 3, refusals included": an answer is the outcome with its values, the event and the lent bytes; the state is the whole
--- machine and the whole store
+-- neighbours that are not dependent can be exchanged, whatever the calls, refused or not: each answers as before, and the same state is
+-- left. An answer is the outcome with its values, the event and the lent bytes; the state is the whole machine and the whole store
 abbrev pub NeighboursSwap : Type 0
-NeighboursSwap = (a b : Act) (x : State) → Sound (x .machine) → dependent (a .call) (b .call) ≡ false → Swapped does a b x
+NeighboursSwap =
+    (a b : Act) (x : State)
+    → WellTyped (x .machine)
+    → dependent (a .call) (b .call) ≡ false
+    → Swapped does a b x
 
 -- and so wherever the two stand in a list: every other call answers as before
 abbrev pub NeighboursExchange : Type 0
 NeighboursExchange =
-    (before : List Act) (a b : Act) (after : List Act) (x : State) → Sound (x .machine) → dependent (a .call) (b .call) ≡ false
+    (before : List Act) (a b : Act) (after : List Act) (x : State)
+    → WellTyped (x .machine)
+    → dependent (a .call) (b .call) ≡ false
     → Exchanged does before a b after x
 
 -- some pairs, whatever the sizes z and y, the values v and w and the truth t
@@ -45,7 +49,7 @@ pub record Pairs (z y : ArgumentSize) (v w : ℕ) (t : Bool) : Type 0 where
   pub cr3-memory : dependent (WriteOperand (Register CR3) z v) (ReadMemory w) ≡ true
   -- by their kind, though they would give the same in either order
   pub two-reads : dependent (ReadMemory v) (ReadMemory w) ≡ true
-  -- "those of No. 2 and No. 4 don't reach memory"
+  -- sums and the flags of results do not reach memory (RULES 8.2)
   pub sum-memory : dependent (Arithmetic Add z v w) (ReadMemory w) ≡ false
   pub sum-sum : dependent (Arithmetic Add z v w) (Arithmetic AddWithCarry y v w) ≡ true
   pub direction-sum : dependent (SetFlag Direction t) (Arithmetic AddWithCarry z v w) ≡ false

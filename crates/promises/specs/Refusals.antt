@@ -1,5 +1,4 @@
--- Demand 1's numbers, for every tabled call: 01's table "Refusal numbers", its conditions one by one, and their order. "State and memory
--- calls check 1, 2, 3, 4, 5, 6 in that order."
+-- The numbers of demand 1, for every tabled call: the conditions of the refusals one by one (RULES 7.1), and their order (RULES 7.2).
 use mathlib.Core.Bool.{Bool, true, false, cond, not, _&&_}
 use mathlib.Core.List.{List, [], _∷_, _++_}
 use mathlib.Core.Path.{_≡_}
@@ -11,16 +10,16 @@ use Rattle.utils.specs.Outcome.{accepted, onValue}
 use Rattle.instruction_set.specs.Operands.{noAddress, isImmediate, lacksScale}
 use Rattle.instruction_set.specs.Sizes.{bytesOf}
 use Rattle.instruction_set.specs.declared.InstructionArgument.{InstructionArgument}
-use Rattle.store.specs.Store.{Store, sound, live, unused, touched, absentOf}
+use Rattle.store.specs.Store.{pageSize, Store, isStore, pagesInUse, unused, touched, absentOf}
 use Rattle.walk.specs.Walk.{physical}
 use Rattle.machine_state.specs.Address.{addressOf}
-use Rattle.machine_state.specs.Memory.{rsp, cr3, below}
+use Rattle.machine_state.specs.Memory.{rsp, cr3, minus64}
 use Rattle.machine_state.specs.declared.MachineState.{MachineState}
 use Rattle.calls.specs.Step.{step}
 use Rattle.calls.specs.declared.Call.{Call}
 use Rattle.calls.specs.declared.Call.the-variants.{ReadOperand, WriteOperand, EffectiveAddress, Push, Pop, ReadMemory, WriteMemory}
 use Rattle.calls.specs.declared.Call.the-variants.{TestFlag, SetFlag, ComputeFlags, ComputeSizedFlags, Arithmetic}
-use Rattle.rows.specs.Rows.{reaches}
+use Rattle.effects.specs.Rows.{reaches}
 
 -- ---- the access that a call makes: so many bytes are read, or these are written, from an address on
 pub data Access : Type 0 where
@@ -36,7 +35,7 @@ unfoldable pub accessOf : Call → MachineState → List ℕ → Access
 accessOf (ReadOperand a z) m l = atOperand m a (λ x. reading x (bytesOf z))
 accessOf (WriteOperand a z v) m l = atOperand m a (λ x. writing x (toBytes (bytesOf z) v))
 accessOf (EffectiveAddress a) m l = none
-accessOf Push m l = writing (below (rsp m) (length l)) l
+accessOf Push m l = writing (minus64 (rsp m) (length l)) l
 accessOf Pop m l = reading (rsp m) 8
 accessOf (ReadMemory a) m l = reading a (length l)
 accessOf (WriteMemory a) m l = writing a l
@@ -69,22 +68,22 @@ operandChecks (ComputeFlags x z) = []
 operandChecks (ComputeSizedFlags x z) = []
 operandChecks (Arithmetic o z a b) = []
 
--- 5: "more than 4,096 bytes in one access"
+-- 5: more than 4,096 bytes (RULES 4.1)
 abbrev pub tooLong : Access → Bool
 tooLong none = false
-tooLong (reading x n) = ltb 4096 n
-tooLong (writing x d) = ltb 4096 (length d)
+tooLong (reading x n) = ltb pageSize n
+tooLong (writing x d) = ltb pageSize (length d)
 
--- 6: "a write touches more absent pages than there are unused slots"
+-- 6: more absent pages than unused slots (RULES 3.9)
 abbrev pub noRoom : MachineState → Store → Access → Bool
 noRoom m s none = false
 noRoom m s (reading x n) = false
-noRoom m s (writing x d) = ltb (unused s) (absentOf (live s) (touched (physical s (cr3 m) x) (length d)))
+noRoom m s (writing x d) = ltb (unused s) (absentOf (pagesInUse s) (touched (physical s (cr3 m) x) (length d)))
 
--- 4: "memory is reached, and bytes ≠ 4,096 × slots, or slots in use exceed slots, or slots exceed 65,536"
+-- 4: memory is reached, and what is lent is no store (RULES 3.5); then 5, then 6
 abbrev pub memoryChecks : Call → MachineState → Store → List ℕ → List Check
 memoryChecks c m s l =
-    check 4 (reaches c && not (sound s)) ∷ check 5 (tooLong (accessOf c m l)) ∷ check 6 (noRoom m s (accessOf c m l)) ∷ []
+    check 4 (reaches c && not (isStore s)) ∷ check 5 (tooLong (accessOf c m l)) ∷ check 6 (noRoom m s (accessOf c m l)) ∷ []
 
 abbrev pub checks : Call → MachineState → Store → List ℕ → List Check
 checks c m s l = operandChecks c ++ memoryChecks c m s l
@@ -100,7 +99,11 @@ noneHolds (c ∷ cs) = not (c .holds) && noneHolds cs
 
 -- ---- every call is refused with the first number whose condition holds, and is accepted exactly where none does
 abbrev pub RefusedInOrder : Type 0
-RefusedInOrder = (c : Call) (m : MachineState) (s : Store) (l : List ℕ) → step c m s l .outcome .number ≡ firstHeld (checks c m s l)
+RefusedInOrder =
+    (c : Call) (m : MachineState) (s : Store) (l : List ℕ)
+    → step c m s l .outcome .number ≡ firstHeld (checks c m s l)
 
 abbrev pub AcceptedExactly : Type 0
-AcceptedExactly = (c : Call) (m : MachineState) (s : Store) (l : List ℕ) → accepted (step c m s l .outcome) ≡ noneHolds (checks c m s l)
+AcceptedExactly =
+    (c : Call) (m : MachineState) (s : Store) (l : List ℕ)
+    → accepted (step c m s l .outcome) ≡ noneHolds (checks c m s l)

@@ -1,5 +1,6 @@
--- 02, No. 4, "Zero at the size": the sized form of the flag call beside the old one. What a call does is `step`, which `calls::perform` is
--- proved to do, so that an equation here is of the whole machine, the store, the lent bytes, the event and the answer.
+-- Zero at the size (RULES 2.11; No. 4): the sized form of the flag call beside the old one. What a call does is `step`, which
+-- `calls::perform` is proved to do, so that an equation here is of the whole machine, the store, the lent bytes, the event and the
+-- answer.
 use mathlib.Core.Bool.{Bool, true, false}
 use mathlib.Core.List.{List, [], _∷_, _++_}
 use mathlib.Core.Logic.{_⊎_}
@@ -15,35 +16,43 @@ use Rattle.instruction_set.specs.declared.Flags.the-variants.{Zero}
 use Rattle.fields.specs.Parts.{lowBits}
 use Rattle.arithmetic.specs.declared.Operation.{Operation}
 use Rattle.store.specs.Store.{Store, storeOf}
-use Rattle.machine_state.specs.Answers.{word, After}
+use Rattle.machine_state.specs.Answers.{word, Result}
 use Rattle.machine_state.specs.Flagged.{flagIn, setFlag}
 use Rattle.machine_state.specs.Machine.{newMachine}
-use Rattle.machine_state.specs.Memory.{after}
+use Rattle.machine_state.specs.Memory.{leaves}
 use Rattle.machine_state.specs.declared.Event.the-variants.{Quiet}
 use Rattle.machine_state.specs.declared.MachineState.{MachineState}
 use Rattle.calls.specs.Step.{step}
 use Rattle.calls.specs.declared.Call.the-variants.{ComputeFlags, ComputeSizedFlags, Arithmetic}
 use Rattle.promises.specs.SumTable.{allSet}
-use Rattle.promises.specs.Table.{Line, line, minus, flags}
+use Rattle.promises.specs.Table.{Line, line, minus, zeroSignParity}
 
--- ---- "the forms agree on results already sign-extended or zero-extended from their size"
+-- ---- the forms agree on a result that is sign-extended or zero-extended from its size
 abbrev pub Extended : ArgumentSize → ℕ → Type 0
 Extended z v = (v ≡ lowBits z v) ⊎ (v ≡ extend (8 * bytesOf z) (lowBits z v))
 
 -- on a result both calls do the same to every machine, store and lent bytes
-abbrev pub Alike : ArgumentSize → ℕ → Type 0
-Alike z v = (m : MachineState) (s : Store) (l : List ℕ) → step (ComputeSizedFlags v z) m s l ≡ step (ComputeFlags v z) m s l
+abbrev pub FormsAlike : ArgumentSize → ℕ → Type 0
+FormsAlike z v =
+    (m : MachineState) (s : Store) (l : List ℕ)
+    → step (ComputeSizedFlags v z) m s l ≡ step (ComputeFlags v z) m s l
 
 abbrev pub FormsAgree : Type 0
-FormsAgree = (z : ArgumentSize) (v : ℕ) → Extended z v → Alike z v
+FormsAgree =
+    (z : ArgumentSize) (v : ℕ)
+    → Extended z v
+    → FormsAlike z v
 
 -- so at Bit64 on every word
 abbrev pub OneAtBit64 : Type 0
-OneAtBit64 = (v : ℕ) → v < 2 ^ 64 → Alike Bit64 v
+OneAtBit64 =
+    (v : ℕ)
+    → v < 2 ^ 64
+    → FormsAlike Bit64 v
 
 -- ---- where they differ, they differ in Zero alone: the sized form leaves what the old one does, with Zero of the low bits
-abbrev pub withZero : Bool → After → After
-withZero b r = after (setFlag (r .machine) Zero b) (r .store) (r .lent) (r .event) (r .outcome)
+abbrev pub withZero : Bool → Result → Result
+withZero b r = leaves (setFlag (r .machine) Zero b) (r .store) (r .lent) (r .event) (r .outcome)
 
 abbrev pub ZeroAlone : Type 0
 ZeroAlone =
@@ -59,22 +68,27 @@ pub record Differ (z : ArgumentSize) (v : ℕ) : Type 0 where
   pub sized : (m : MachineState) (s : Store) (l : List ℕ) → flagIn (step (ComputeSizedFlags v z) m s l .machine) Zero ≡ true
 
 abbrev pub DifferExactly : Type 0
-DifferExactly = (z : ArgumentSize) (v : ℕ) → (OnlyLowZero z v → Differ z v) × ((OnlyLowZero z v → ⊥) → Alike z v)
+DifferExactly =
+    (z : ArgumentSize) (v : ℕ)
+    → (OnlyLowZero z v → Differ z v) × ((OnlyLowZero z v → ⊥) → FormsAlike z v)
 
--- ---- No. 2: on every value that an operation answers both forms agree, and after the operation the flags stand already as they set them
-pub record Told (z : ArgumentSize) (v : ℕ) (m : MachineState) : Type 0 where
-  pub alike : Alike z v
-  pub stand : (s : Store) (l : List ℕ) → step (ComputeSizedFlags v z) m s l ≡ after m s l Quiet (gives [])
+-- ---- on every value that an operation answers (RULES 2.14) both forms agree, and after the operation the flags stand already as they
+-- set them
+pub record FlagsSettled (z : ArgumentSize) (v : ℕ) (m : MachineState) : Type 0 where
+  pub alike : FormsAlike z v
+  pub stand : (s : Store) (l : List ℕ) → step (ComputeSizedFlags v z) m s l ≡ leaves m s l Quiet (gives [])
 
 abbrev pub AnswersTold : Type 0
 AnswersTold =
     (o : Operation) (z : ArgumentSize) (a b v : ℕ) (m : MachineState) (s : Store) (l : List ℕ)
-    → step (Arithmetic o z a b) m s l .outcome ≡ gives (word v ∷ []) → Told z v (step (Arithmetic o z a b) m s l .machine)
+    → step (Arithmetic o z a b) m s l .outcome ≡ gives (word v ∷ [])
+    → FlagsSettled z v (step (Arithmetic o z a b) m s l .machine)
 
 -- ---- worked out by hand, one line each: Zero, Sign and Parity as the old form leaves them, then as the sized one does; once rflags whole
 abbrev pub bothForms : MachineState → ℕ → ArgumentSize → List ℕ
 bothForms m v z =
-    flags (step (ComputeFlags v z) m (storeOf [] [] 0) [] .machine) ++ flags (step (ComputeSizedFlags v z) m (storeOf [] [] 0) [] .machine)
+    zeroSignParity (step (ComputeFlags v z) m (storeOf [] [] 0) [] .machine)
+    ++ zeroSignParity (step (ComputeSizedFlags v z) m (storeOf [] [] 0) [] .machine)
 
 abbrev pub sizedExamples : List Line
 sizedExamples =

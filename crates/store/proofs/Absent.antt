@@ -6,7 +6,7 @@ use Prim.Native.Nat.{ℕ, zero, suc, _+_, _-_, _/_, _%_, _<_, _≤_}
 use native.Mathlib.Omega.{arith}
 use lib.Dec.{leb}
 use borrow.Author.Tests.{leb-true, le-leb, lt-leb}
-use Rattle.store.specs.Store.{foundIn, slotOf, lack, pagesFrom, touched, absentOf}
+use Rattle.store.specs.Store.{foundIn, slotOf, slotsNeeded, pagesFrom, touched, absentOf}
 use Rattle.store.specs.declared.Found.{Found}
 use Rattle.store.specs.declared.Found.the-variants.{At, Nothing}
 
@@ -40,7 +40,7 @@ unfolding pagesFrom absentOf
 absent-within l g zero = omega arith
 absent-within l g (suc k) = go (foundIn l g) (absent-within l (g + 1) k)
   where
-    go : (f : Found) → absentOf l (pagesFrom (g + 1) k) ≤ k → lack f + absentOf l (pagesFrom (g + 1) k) ≤ suc k
+    go : (f : Found) → absentOf l (pagesFrom (g + 1) k) ≤ k → slotsNeeded f + absentOf l (pagesFrom (g + 1) k) ≤ suc k
     go (At i) h = omega arith
     go Nothing h = omega arith
 
@@ -59,7 +59,7 @@ pub touched-none : (l : List ℕ) (p n : ℕ) → n ≡ 0 → 0 ≡ absentOf l (
 touched-none l p n e = rw e (unfold touched absentOf in refl)
 
 pub pages-turn : (l : List ℕ) (g left : ℕ) → 0 < left
-    → absentOf l (pagesFrom g left) ≡ lack (foundIn l g) + absentOf l (pagesFrom (g + 1) (left - 1))
+    → absentOf l (pagesFrom g left) ≡ slotsNeeded (foundIn l g) + absentOf l (pagesFrom (g + 1) (left - 1))
 unfolding pagesFrom absentOf
 pages-turn l g zero h = absurd (omega arith)
 pages-turn l g (suc k) h = let e : suc k - 1 ≡ k = omega arith in rw e

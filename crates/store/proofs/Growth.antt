@@ -10,40 +10,40 @@ use native.Mathlib.Omega.{arith}
 use native.Mathlib.Decide.{ℕ-discrete}
 use lib.ListN.{length, getD, set, length-set}
 use lib.Seq.{getD-set-same, getD-set-other, getD-take}
-use Rattle.store.specs.Store.{Store, storeOf, live, foundIn, byteAt, takenIf, withPage, stored, putByte, written, lack, pagesFrom}
+use Rattle.store.specs.Store.{Store, storeOf, pagesInUse, foundIn, byteAt, slotTakenIf, withPage, stored, putByte, written, slotsNeeded, pagesFrom}
 use Rattle.store.specs.Store.{touched, absentOf}
-use Rattle.store.specs.Facts.{Sound, Room, noBytes}
+use Rattle.store.specs.Facts.{IsStore, Room, noBytes}
 use Rattle.store.specs.declared.Found.{Found}
 use Rattle.store.specs.declared.Found.the-variants.{At, Nothing}
 use Rattle.store.proofs.Seek.{seek-at, found-seek}
-use Rattle.runs.proofs.Filled.{getD-filled-other}
+use Rattle.byte_runs.proofs.Filled.{getD-filled-other}
 use Rattle.store.proofs.Read.{live-len, Place, here, missing, place, byte-here, byte-missing}
 use Rattle.store.proofs.Slot.{with-here, with-missing, found-taken, room-missing, sound-with, found-with, other-with, byte-with}
 
 -- ---- one byte, in a page that has a slot
-stored-at : (s : Store) (p i b : ℕ) → foundIn (live s) (p / 4096) ≡ At i
+stored-at : (s : Store) (p i b : ℕ) → foundIn (pagesInUse s) (p / 4096) ≡ At i
     → stored s p b ≡ storeOf (s .dir) (set (s .bytes) (4096 * i + p % 4096) b) (s .used)
 unfolding stored
-stored-at s p i b e = rw (found-seek (live s) (p / 4096) i e .0)
+stored-at s p i b e = rw (found-seek (pagesInUse s) (p / 4096) i e .0)
 
 -- two pages in one slot are one page
-same-page : (s : Store) (g k i : ℕ) → foundIn (live s) g ≡ At i → foundIn (live s) k ≡ At i → g ≡ k
+same-page : (s : Store) (g k i : ℕ) → foundIn (pagesInUse s) g ≡ At i → foundIn (pagesInUse s) k ≡ At i → g ≡ k
 same-page s g k i e e′ =
-    let a = found-seek (live s) g i e in
-    let b = found-seek (live s) k i e′ in
-    sym (seek-at (live s) g (omega arith)) ∙ ap (λ (j : ℕ). getD (live s) j 0) (a .0 ∙ sym (b .0)) ∙ seek-at (live s) k (omega arith)
+    let a = found-seek (pagesInUse s) g i e in
+    let b = found-seek (pagesInUse s) k i e′ in
+    sym (seek-at (pagesInUse s) g (omega arith)) ∙ ap (λ (j : ℕ). getD (pagesInUse s) j 0) (a .0 ∙ sym (b .0)) ∙ seek-at (pagesInUse s) k (omega arith)
 
 -- a slot found holds the page's number
-slot-number : (s : Store) → Sound s → (g i : ℕ) → foundIn (live s) g ≡ At i → getD (s .dir) i 0 ≡ g
+slot-number : (s : Store) → IsStore s → (g i : ℕ) → foundIn (pagesInUse s) g ≡ At i → getD (s .dir) i 0 ≡ g
 slot-number s h g i e =
-    let a = found-seek (live s) g i e in
+    let a = found-seek (pagesInUse s) g i e in
     let n = live-len s h in
-    sym (getD-take (s .used) (s .dir) i 0 (omega arith)) ∙ ap (λ (j : ℕ). getD (live s) j 0) (sym (a .0)) ∙ seek-at (live s) g (omega arith)
+    sym (getD-take (s .used) (s .dir) i 0 (omega arith)) ∙ ap (λ (j : ℕ). getD (pagesInUse s) j 0) (sym (a .0)) ∙ seek-at (pagesInUse s) g (omega arith)
 
-module _ (s : Store) (h : Sound s) (p i b : ℕ) (e : foundIn (live s) (p / 4096) ≡ At i) where
+module _ (s : Store) (h : IsStore s) (p i b : ℕ) (e : foundIn (pagesInUse s) (p / 4096) ≡ At i) where
   stored-same : byteAt (stored s p b) p ≡ b
   stored-same =
-      let w = found-seek (live s) (p / 4096) i e in
+      let w = found-seek (pagesInUse s) (p / 4096) i e in
       let n = live-len s h in
       rw (stored-at s p i b e)
       (byte-here (storeOf (s .dir) (set (s .bytes) (4096 * i + p % 4096) b) (s .used)) p i e
@@ -61,13 +61,13 @@ module _ (s : Store) (h : Sound s) (p i b : ℕ) (e : foundIn (live s) (p / 4096
           ∙ sym (byte-here s q j f)
       go (missing w f) = byte-missing (storeOf (s .dir) (set (s .bytes) (4096 * i + p % 4096) b) (s .used)) q f ∙ sym (byte-missing s q f)
 
-  sound-stored : Sound (stored s p b)
+  sound-stored : IsStore (stored s p b)
   sound-stored =
       rw (stored-at s p i b e)
       (record { small = h .small; fits = h .fits; sized = length-set (s .bytes) (4096 * i + p % 4096) b ∙ h .sized })
 
 -- ---- one byte, in a page that has a slot or room for one
-module _ (s : Store) (h : Sound s) (p b : ℕ) (r : Room s (p / 4096)) where
+module _ (s : Store) (h : IsStore s) (p b : ℕ) (r : Room s (p / 4096)) where
   put-same : byteAt (putByte s p b) p ≡ b
   unfolding putByte
   put-same = let w = found-with s h (p / 4096) r in stored-same (withPage s (p / 4096)) (sound-with s h (p / 4096) r) p (w .0) b (w .1)
@@ -77,16 +77,16 @@ module _ (s : Store) (h : Sound s) (p b : ℕ) (r : Room s (p / 4096)) where
   put-other q ne = let w = found-with s h (p / 4096) r in
       stored-other (withPage s (p / 4096)) (sound-with s h (p / 4096) r) p (w .0) b (w .1) q ne ∙ byte-with s h (p / 4096) r q
 
-  put-sound : Sound (putByte s p b)
+  put-sound : IsStore (putByte s p b)
   unfolding putByte
   put-sound = let w = found-with s h (p / 4096) r in sound-stored (withPage s (p / 4096)) (sound-with s h (p / 4096) r) p (w .0) b (w .1)
 
-  -- its page is in place then, and every other page is where it was
-  put-found : lack (foundIn (live (putByte s p b)) (p / 4096)) ≡ 0
+  -- its page is there then, and every other page is where it was
+  put-found : slotsNeeded (foundIn (pagesInUse (putByte s p b)) (p / 4096)) ≡ 0
   unfolding putByte stored
-  put-found = ap lack (found-with s h (p / 4096) r .1)
+  put-found = ap slotsNeeded (found-with s h (p / 4096) r .1)
 
-  put-others : (k : ℕ) → (p / 4096 ≡ k → ⊥) → foundIn (live (putByte s p b)) k ≡ foundIn (live s) k
+  put-others : (k : ℕ) → (p / 4096 ≡ k → ⊥) → foundIn (pagesInUse (putByte s p b)) k ≡ foundIn (pagesInUse s) k
   unfolding putByte stored
   put-others k ne = other-with s h (p / 4096) r k ne
 
@@ -110,23 +110,23 @@ module _ (s : Store) (h : Sound s) (p b : ℕ) (r : Room s (p / 4096)) where
           ∙ getD-filled-other (s .bytes) (4096 * s .used) noBytes 4096 (4096 * i + o) (inl (omega arith)))
 
 -- the count and the slots after one byte
-if-count : (s : Store) (g : ℕ) (f : Found) → (takenIf s g f .used ≡ s .used + lack f) × (length (takenIf s g f .dir) ≡ length (s .dir))
+if-count : (s : Store) (g : ℕ) (f : Found) → (slotTakenIf s g f .used ≡ s .used + slotsNeeded f) × (length (slotTakenIf s g f .dir) ≡ length (s .dir))
 if-count s g (At i) = (omega arith, refl)
 if-count s g Nothing = (omega arith, length-set (s .dir) (s .used) g)
 
 put-count : (s : Store) (p b : ℕ)
-    → (putByte s p b .used ≡ s .used + lack (foundIn (live s) (p / 4096))) × (length (putByte s p b .dir) ≡ length (s .dir))
+    → (putByte s p b .used ≡ s .used + slotsNeeded (foundIn (pagesInUse s) (p / 4096))) × (length (putByte s p b .dir) ≡ length (s .dir))
 unfolding putByte stored withPage
-put-count s p b = if-count s (p / 4096) (foundIn (live s) (p / 4096))
+put-count s p b = if-count s (p / 4096) (foundIn (pagesInUse s) (p / 4096))
 
 -- a slot in use keeps its number
-if-number : (s : Store) (g i : ℕ) (f : Found) → i < s .used → getD (takenIf s g f .dir) i 0 ≡ getD (s .dir) i 0
+if-number : (s : Store) (g i : ℕ) (f : Found) → i < s .used → getD (slotTakenIf s g f .dir) i 0 ≡ getD (s .dir) i 0
 if-number s g i (At j) lt = refl
 if-number s g i Nothing lt = getD-set-other (s .dir) (s .used) i g 0 (λ e. omega arith)
 
 put-number : (s : Store) (p b i : ℕ) → i < s .used → getD (putByte s p b .dir) i 0 ≡ getD (s .dir) i 0
 unfolding putByte stored withPage
-put-number s p b i lt = if-number s (p / 4096) i (foundIn (live s) (p / 4096)) lt
+put-number s p b i lt = if-number s (p / 4096) i (foundIn (pagesInUse s) (p / 4096)) lt
 
 -- ---- the pages touched, one byte more
 pages-more : (g k : ℕ) → pagesFrom g (suc k) ≡ pagesFrom g k ++ ((g + k) ∷ [])
@@ -141,9 +141,9 @@ unfolding absentOf
 absent-both l [] b = sym (zero-add (absentOf l b))
 absent-both l (g ∷ a) b = omega (arith, absent-both l a b)
 
-absent-one : (l : List ℕ) (g : ℕ) → absentOf l (g ∷ []) ≡ lack (foundIn l g)
+absent-one : (l : List ℕ) (g : ℕ) → absentOf l (g ∷ []) ≡ slotsNeeded (foundIn l g)
 unfolding absentOf
-absent-one l g = add-zero (lack (foundIn l g))
+absent-one l g = add-zero (slotsNeeded (foundIn l g))
 
 touched-first : (p : ℕ) → touched p 1 ≡ ((p + 0) / 4096) ∷ []
 unfolding touched pagesFrom
@@ -171,10 +171,10 @@ touched-next p m ne =
     next-page (no f) = omega arith
 
 -- ---- n bytes
-module _ (s : Store) (h : Sound s) (p : ℕ) (f : ℕ → ℕ) where
+module _ (s : Store) (h : IsStore s) (p : ℕ) (f : ℕ → ℕ) where
   -- while the count stays within the directory, it stays a store
   pub record Still (n : ℕ) : Type 0 where
-    pub sound : Sound (written s p f n)
+    pub sound : IsStore (written s p f n)
     pub slots : length (written s p f n .dir) ≡ length (s .dir)
 
   still-down : (n : ℕ) → written s p f (suc n) .used ≤ length (s .dir) → written s p f n .used ≤ length (s .dir)
@@ -243,51 +243,51 @@ module _ (s : Store) (h : Sound s) (p : ℕ) (f : ℕ → ℕ) where
 
   -- ---- the count
   abbrev absent : ℕ → ℕ
-  absent n = absentOf (live s) (touched p n)
+  absent n = absentOf (pagesInUse s) (touched p n)
 
   absent-next : (m : ℕ) → ((p + suc m) / 4096 ≡ (p + m) / 4096 → ⊥)
-      → absent (suc (suc m)) ≡ absent (suc m) + lack (foundIn (live s) ((p + suc m) / 4096))
+      → absent (suc (suc m)) ≡ absent (suc m) + slotsNeeded (foundIn (pagesInUse s) ((p + suc m) / 4096))
   absent-next m ne =
-      ap (absentOf (live s)) (touched-next p m ne)
-      ∙ absent-both (live s) (touched p (suc m)) (((p + suc m) / 4096) ∷ [])
-      ∙ ap (λ (x : ℕ). absent (suc m) + x) (absent-one (live s) ((p + suc m) / 4096))
+      ap (absentOf (pagesInUse s)) (touched-next p m ne)
+      ∙ absent-both (pagesInUse s) (touched p (suc m)) (((p + suc m) / 4096) ∷ [])
+      ∙ ap (λ (x : ℕ). absent (suc m) + x) (absent-one (pagesInUse s) ((p + suc m) / 4096))
 
   absent-more : (n : ℕ) → absent n ≤ absent (suc n)
   absent-more zero = let e : absent 0 ≡ 0 = unfold touched absentOf in refl in omega arith
   absent-more (suc m) = go (ℕ-discrete ((p + suc m) / 4096) ((p + m) / 4096))
     where
       go : Dec ((p + suc m) / 4096 ≡ (p + m) / 4096) → absent (suc m) ≤ absent (suc (suc m))
-      go (yes e) = omega (arith, ap (absentOf (live s)) (touched-same p m e))
+      go (yes e) = omega (arith, ap (absentOf (pagesInUse s)) (touched-same p m e))
       go (no ne) = omega (arith, absent-next m ne)
 
-  pub absent-upto : (n m : ℕ) → absentOf (live s) (touched p n) ≤ absentOf (live s) (touched p (n + m))
+  pub absent-upto : (n m : ℕ) → absentOf (pagesInUse s) (touched p n) ≤ absentOf (pagesInUse s) (touched p (n + m))
   absent-upto n zero = let e : n + 0 ≡ n = add-zero n in rw e (omega arith)
   absent-upto n (suc m) = let e : n + suc m ≡ suc (n + m) = add-suc n m in rw e (omega (arith, absent-upto n m, absent-more (n + m)))
 
   -- after n bytes: the count, the pages not reached yet, the page of the last byte
   record Grown (n : ℕ) : Type 0 where
     count : written s p f n .used ≡ s .used + absent n
-    beyond : (k : ℕ) → p + n ≤ 4096 * k → foundIn (live (written s p f n)) k ≡ foundIn (live s) k
-    inside : (m : ℕ) → n ≡ suc m → lack (foundIn (live (written s p f n)) ((p + m) / 4096)) ≡ 0
+    beyond : (k : ℕ) → p + n ≤ 4096 * k → foundIn (pagesInUse (written s p f n)) k ≡ foundIn (pagesInUse s) k
+    inside : (m : ℕ) → n ≡ suc m → slotsNeeded (foundIn (pagesInUse (written s p f n)) ((p + m) / 4096)) ≡ 0
 
   -- one byte more wants a slot exactly if it opens an absent page
-  one-more : (n : ℕ) → Grown n → absent (suc n) ≡ absent n + lack (foundIn (live (written s p f n)) ((p + n) / 4096))
+  one-more : (n : ℕ) → Grown n → absent (suc n) ≡ absent n + slotsNeeded (foundIn (pagesInUse (written s p f n)) ((p + n) / 4096))
   unfolding written
   one-more zero g =
       let z : absent 0 ≡ 0 = unfold touched absentOf in refl in
-      let a : absent 1 ≡ lack (foundIn (live s) ((p + 0) / 4096)) =
-      ap (absentOf (live s)) (touched-first p) ∙ absent-one (live s) ((p + 0) / 4096) in
+      let a : absent 1 ≡ slotsNeeded (foundIn (pagesInUse s) ((p + 0) / 4096)) =
+      ap (absentOf (pagesInUse s)) (touched-first p) ∙ absent-one (pagesInUse s) ((p + 0) / 4096) in
       omega arith
   one-more (suc m) g = go (ℕ-discrete ((p + suc m) / 4096) ((p + m) / 4096))
     where
       go : Dec ((p + suc m) / 4096 ≡ (p + m) / 4096)
-          → absent (suc (suc m)) ≡ absent (suc m) + lack (foundIn (live (written s p f (suc m))) ((p + suc m) / 4096))
+          → absent (suc (suc m)) ≡ absent (suc m) + slotsNeeded (foundIn (pagesInUse (written s p f (suc m))) ((p + suc m) / 4096))
       go (yes e) =
           let z = g .inside m refl in
-          let y = ap (λ (k : ℕ). lack (foundIn (live (written s p f (suc m))) k)) e in
-          omega (arith, ap (absentOf (live s)) (touched-same p m e))
+          let y = ap (λ (k : ℕ). slotsNeeded (foundIn (pagesInUse (written s p f (suc m))) k)) e in
+          omega (arith, ap (absentOf (pagesInUse s)) (touched-same p m e))
       go (no ne) =
-          let y = ap lack (g .beyond ((p + suc m) / 4096) (omega arith)) in
+          let y = ap slotsNeeded (g .beyond ((p + suc m) / 4096) (omega arith)) in
           omega (arith, absent-next m ne)
 
   grown : (n : ℕ) → s .used + absent n ≤ length (s .dir) → Grown n
@@ -308,6 +308,6 @@ module _ (s : Store) (h : Sound s) (p : ℕ) (f : ℕ → ℕ) where
         inside = λ m e. let q : n ≡ m = omega arith in rw (sym q) (put-found (written s p f n) (t .sound) (p + n) (f n) room);
       }
 
-  pub written-count : (n : ℕ) → s .used + absentOf (live s) (touched p n) ≤ length (s .dir)
-      → written s p f n .used ≡ s .used + absentOf (live s) (touched p n)
+  pub written-count : (n : ℕ) → s .used + absentOf (pagesInUse s) (touched p n) ≤ length (s .dir)
+      → written s p f n .used ≡ s .used + absentOf (pagesInUse s) (touched p n)
   written-count n r = grown n r .count

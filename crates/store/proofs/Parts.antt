@@ -7,7 +7,7 @@ use native.Mathlib.Omega.{arith}
 use lib.Dec.{ltb}
 use borrow.Author.Tests.{ltb-true, ltb-false, lt-ltb, le-ltb}
 use Rattle.store.specs.Store.{partLength}
-use Rattle.store.specs.Facts.{Part, Reached}
+use Rattle.store.specs.Facts.{PagePart, Reached}
 
 -- ---- one page's part
 pub part-left : (off left : ℕ) → left < 4096 - off → left ≡ partLength off left
@@ -22,11 +22,11 @@ part-rest off left h = rw (le-ltb left (4096 - off) h)
 pub part-past : (off left : ℕ) → 4096 < off → 0 ≡ partLength off left
 part-past off left h = let e : 0 ≡ 4096 - off = omega arith in e ∙ part-rest off left (omega arith)
 
-pub part-of : (off left n : ℕ) → n ≡ partLength off left → off < 4096 → 1 ≤ left → Part off left n
+pub part-of : (off left n : ℕ) → n ≡ partLength off left → off < 4096 → 1 ≤ left → PagePart off left n
 unfolding partLength
 part-of off left n e o l = go (ltb left (4096 - off)) refl e
   where
-    go : (b : Bool) → ltb left (4096 - off) ≡ b → n ≡ cond b left (4096 - off) → Part off left n
+    go : (b : Bool) → ltb left (4096 - off) ≡ b → n ≡ cond b left (4096 - off) → PagePart off left n
     go true t q =
         let h = ltb-true left (4096 - off) t in
         record { some = omega arith; inside = omega arith; within = omega arith; full = λ w. absurd (omega arith) }
@@ -36,14 +36,14 @@ part-of off left n e o l = go (ltb left (4096 - off)) refl e
 
 -- ---- where an access stands, page by page
 pub reached-first : (p len : ℕ) → Reached p len (p / 4096) (p % 4096) 0
-reached-first p len = record { within = omega arith; inside = omega arith; place = λ h. omega arith }
+reached-first p len = record { within = omega arith; inside = omega arith; address = λ h. omega arith }
 
-pub reached-next : (p len g off done n : ℕ) → Reached p len g off done → done < len → Part off (len - done) n
+pub reached-next : (p len g off done n : ℕ) → Reached p len g off done → done < len → PagePart off (len - done) n
     → Reached p len (g + 1) 0 (done + n)
 reached-next p len g off done n r lt q =
-    let e = r .place lt in
+    let e = r .address lt in
     record {
       within = omega (arith, q .within);
       inside = omega arith;
-      place = λ h. omega (arith, q .full (omega arith));
+      address = λ h. omega (arith, q .full (omega arith));
     }

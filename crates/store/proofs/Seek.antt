@@ -29,7 +29,7 @@ pub take-full : (n : ℕ) (l : List ℕ) (k : ℕ) → k ≤ n → k ≤ length 
 take-full n l zero h m = zero-le
 take-full n l (suc i) h m = omega (arith, take-long n l i (omega arith) (omega arith))
 
--- the place is within the list, or is its length
+-- the position is within the list, or is its length
 pub seek-len : (l : List ℕ) (p : ℕ) → seek l p ≤ length l
 unfolding seek
 seek-len [] p = zero-le
@@ -93,7 +93,7 @@ none-taken n l p h =
     let short = take-short n l in
     found-none (take n l) p (seek-taken n l p (length (take n l)) h (short .0) (short .1))
 
--- a slot found is the place sought
+-- a slot found is the position sought
 pub found-seek : (l : List ℕ) (g i : ℕ) → foundIn l g ≡ At i → (seek l g ≡ i) × (i < length l)
 unfolding foundIn
 found-seek l g i e = go (ltb (seek l g) (length l)) refl e

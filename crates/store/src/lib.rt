@@ -1,24 +1,30 @@
-// The store of pages: what it is, the search of its directory, the absent pages that an access touches, the view of one page, and its laws. A store is
-// lent slices and a count, so these are functions on slices. Below are utils and runs, which know words and runs of bytes; above are walk and
-// writes, whose reads and writes go page by page through what the search finds, mmu, which asks first whether it is a store, and session, which shows
-// a page. It carries document 01, "Addresses, pages, walk", from "The store is a lent directory" to "without wrap" and its last sentence, the page
-// view, and the tests of refusal 4. specs/Store.antt has the store as a value: its bytes by physical address, and what writing bytes makes of it;
-// proofs/ has the laws, which name no function of the crates above.
+// The store of pages: what it is, the search of its directory, the absent pages that an access touches, the view of one page, and its
+// laws. A store is lent slices and a count, so these are functions on slices. Below are utils and `byte_runs`, which know words and runs of
+// bytes; above are walk and writes, whose reads and writes go page by page through what the search finds, mmu, which asks first whether
+// it is a store, and `wire_session`, which shows a page. specs/Store.antt has the store as a value: its bytes by physical address, and what
+// writing bytes makes of it; proofs/ has the laws, which name no function of the crates above.
+// It carries RULES 3.4 to 3.10 and the page view, 3.15 and 7.4, with the tests of refusal 4.
 ghost use mathlib.Core.Path.{_≡_};
 ghost use Prim.Native.Nat.{_+_, _≤_, _<_};
 ghost use lib.ListN.{length, take};
-ghost use Rattle.store.specs.Store.{storeOf, sound, seek, foundIn, slotOf, lack, touched, absentOf, partLength};
+ghost use Rattle.store.specs.Store.{storeOf, isStore, seek, foundIn, slotOf, slotsNeeded, touched, absentOf, partLength};
 ghost use Rattle.store.specs.View.{zeroPage, viewOf};
 
-// The slot of a page.
+// A page has so many bytes (RULES 3.6).
+pub const PAGE_SIZE: usize = 4096;
+
+// The same, as a part of an address.
+pub const PAGE_STEP: u64 = PAGE_SIZE as u64;
+
+// Where a search ended: in the slot of a page, or nowhere, where the page is absent (RULES 3.7).
 pub enum Found {
     At(usize),
     Nothing,
 }
 
-// Whether the lent slices make a store: refusal 4 if not. The slots are bounded first, so that the product fits.
+// Whether the lent slices make a store (RULES 3.5): refusal 4 if not. The slots are bounded first, so that the product fits.
 pub fn is_store(dir: &[u64], bytes: &[u8], used: usize) -> bool
-    ensures { λ r. ⌜ r ≡ sound (storeOf (now (dir .entry)) (now (bytes .entry)) used) ⌝ }
+    ensures { λ r. ⌜ r ≡ isStore (storeOf (now (dir .entry)) (now (bytes .entry)) used) ⌝ }
 {
     if 65536 < dir.len() {
         return false;
@@ -26,7 +32,7 @@ pub fn is_store(dir: &[u64], bytes: &[u8], used: usize) -> bool
     if dir.len() < used {
         return false;
     }
-    bytes.len() == 4096 * dir.len()
+    bytes.len() == PAGE_SIZE * dir.len()
 }
 
 // How many slots are in use: no more than there are.
@@ -59,8 +65,7 @@ fn among_four(dir: &[u64], i: usize, page: u64) -> usize
     4
 }
 
-// The first slot in use that holds the number (01: "a loop over slots yields the slot number or none by break"): eight slots a turn, for speed, and
-// one a turn where fewer are left.
+// The first slot in use that holds the number, or none, by break (RULES 3.7, 9.6): eight slots a turn, and one where fewer are left.
 pub fn find_page(dir: &[u64], used: usize, page: u64) -> Found
     ensures { λ r. ⌜ r ≡ foundIn (take used (now (dir .entry))) page ⌝ }
 {
@@ -94,16 +99,16 @@ pub fn find_page(dir: &[u64], used: usize, page: u64) -> Found
 pub fn slot_of(p: u64, n: usize, dir: &[u64], used: usize) -> Found
     ensures { λ r. ⌜ r ≡ slotOf (take used (now (dir .entry))) p n ⌝ }
 {
-    let off = (p % 4096) as usize;
-    if 4096 - off < n {
+    let off = (p % PAGE_STEP) as usize;
+    if PAGE_SIZE - off < n {
         return Found::Nothing;
     }
-    find_page(dir, used, p / 4096)
+    find_page(dir, used, p / PAGE_STEP)
 }
 
-// How many slots a page still wants: 1 if it is absent.
+// How many slots a page still needs: 1 if it is absent.
 fn lacking(dir: &[u64], used: usize, page: u64) -> usize
-    ensures { λ r. ⌜ (r ≡ lack (foundIn (take used (now (dir .entry))) page)) × (r ≤ 1) ⌝ }
+    ensures { λ r. ⌜ (r ≡ slotsNeeded (foundIn (take used (now (dir .entry))) page)) × (r ≤ 1) ⌝ }
 {
     let found = find_page(dir, used, page);
     match found {
@@ -119,9 +124,9 @@ pub fn count_absent(p: u64, n: usize, dir: &[u64], used: usize) -> usize
     if n == 0 {
         return 0;
     }
-    let off = (p % 4096) as usize;
-    let mut page = p / 4096;
-    let mut left = (n - 1) / 4096 + ((n - 1) % 4096 + off) / 4096 + 1;
+    let off = (p % PAGE_STEP) as usize;
+    let mut page = p / PAGE_STEP;
+    let mut left = (n - 1) / PAGE_SIZE + ((n - 1) % PAGE_SIZE + off) / PAGE_SIZE + 1;
     let mut absent: usize = 0;
     while 0 < left {
         absent += lacking(dir, used, page);
@@ -131,14 +136,14 @@ pub fn count_absent(p: u64, n: usize, dir: &[u64], used: usize) -> usize
     absent
 }
 
-// How many of the bytes that are left of an access lie in the page it has reached: to the page's end, or all of them.
+// How many of the bytes that are left of an access lie in the page it has reached, from byte `off` of it on: to its end, or all of them.
 pub fn part_length(off: usize, left: usize) -> usize
     ensures { λ r. ⌜ r ≡ partLength off left ⌝ }
 {
-    if 4096 < off {
+    if PAGE_SIZE < off {
         return 0;
     }
-    let rest = 4096 - off;
+    let rest = PAGE_SIZE - off;
     if left < rest {
         return left;
     }
@@ -149,7 +154,7 @@ pub fn part_length(off: usize, left: usize) -> usize
 fn is_zero_page(z: &[u8]) -> bool
     ensures { λ r. ⌜ r ≡ zeroPage (now (z .entry)) ⌝ }
 {
-    if z.len() != 4096 {
+    if z.len() != PAGE_SIZE {
         return false;
     }
     let mut k: usize = 0;
@@ -162,7 +167,7 @@ fn is_zero_page(z: &[u8]) -> bool
     true
 }
 
-// One page: a part of the store's bytes, or the lent page of zeros if it is absent; an empty part is refusal 4.
+// One page (RULES 3.15): a part of the store's bytes, or the lent page of zeros if it is absent. Refuses 4, by an empty part (RULES 7.4).
 pub fn page_view<'a>(
     page: u64,
     dir: &[u64],
@@ -181,8 +186,8 @@ pub fn page_view<'a>(
     let found = find_page(dir, used, page);
     match found {
         Found::At(i) => {
-            let from = 4096 * i;
-            let to = from + 4096;
+            let from = PAGE_SIZE * i;
+            let to = from + PAGE_SIZE;
             &bytes[from..to]
         }
         Found::Nothing => zeros,

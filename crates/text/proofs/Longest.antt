@@ -1,5 +1,5 @@
--- How long the texts of operands can be (01, "Refusal numbers": "Text longest: 57 bytes for operands, 577 for the state"; the state's
--- bound is `state-most`, in state_lines): an operand's bound, by cases on what is told. Assumes nothing.
+-- How long the texts of operands can be (RULES 6.9; the state's bound is `state-most`, in text_state): an operand's bound, by cases on
+-- what is told. Assumes nothing.
 use mathlib.Core.Bool.{Bool, true, false}
 use mathlib.Core.List.{List, [], _∷_}
 use Prim.Native.Nat.{ℕ, _≤_}
@@ -13,28 +13,28 @@ use Rattle.instruction_set.specs.declared.InstructionArgument.{InstructionArgum
 use Rattle.instruction_set.specs.declared.InstructionArguments.{InstructionArguments}
 use Rattle.instruction_set.specs.declared.SomeArgument.{SomeArgument}
 use Rattle.instruction_set.specs.declared.SomeArgument.the-variants as some
-use Rattle.operand_text.proofs.Longest.{Narrow, SomeNarrow, list-most}
-use Rattle.operand_text.specs.Operands.{listText}
-use Rattle.text.specs.Answers.{Told, says, declines}
-use Rattle.text.specs.Arguments.{unless3, listTold, atSize, argumentsOf, argumentsText}
+use Rattle.text_operands.proofs.Longest.{Narrow, SomeNarrow, list-most}
+use Rattle.text_operands.specs.Operands.{listText}
+use Rattle.text.specs.Answers.{TextOrRefusal, textIs, refusedWith}
+use Rattle.text.specs.Arguments.{unless3, listAnswer, atSize, argumentsAnswer, argumentsText}
 
 -- the length of what is told; a refusal has none
-abbrev pub lengthOf : Told → ℕ
-lengthOf (says t) = length t
-lengthOf (declines n) = 0
+abbrev pub lengthOf : TextOrRefusal → ℕ
+lengthOf (textIs t) = length t
+lengthOf (refusedWith n) = 0
 
-unless-most : (b : Bool) (o : Told) {m : ℕ} → lengthOf o ≤ m → lengthOf (unless3 b o) ≤ m
+unless-most : (b : Bool) (o : TextOrRefusal) {m : ℕ} → lengthOf o ≤ m → lengthOf (unless3 b o) ≤ m
 unless-most true o h = omega arith
 unless-most false o h = h
 
-told-most : (size : ArgumentSize) (x : InstructionArgument) (y : SomeArgument) → Narrow x → SomeNarrow y → lengthOf (listTold size x y) ≤ 57
-told-most size x y n m = unless-most (lacksScale x) _ (unless-most (someLacksScale y) (says (listText size x y)) (list-most size x y n m))
+told-most : (size : ArgumentSize) (x : InstructionArgument) (y : SomeArgument) → Narrow x → SomeNarrow y → lengthOf (listAnswer size x y) ≤ 57
+told-most size x y n m = unless-most (lacksScale x) _ (unless-most (someLacksScale y) (textIs (listText size x y)) (list-most size x y n m))
 
 sized-most : (o : Outcome ArgumentSize) (x : InstructionArgument) (y : SomeArgument) → Narrow x → SomeNarrow y
-    → lengthOf (atSize o (λ s. listTold s x y)) ≤ 57
+    → lengthOf (atSize o (λ s. listAnswer s x y)) ≤ 57
 sized-most o x y n m = go (accepted o) (o .values)
   where
-    go : (b : Bool) (ss : List ArgumentSize) → lengthOf (firstIf b ss (λ s. listTold s x y) (declines (o .number))) ≤ 57
+    go : (b : Bool) (ss : List ArgumentSize) → lengthOf (firstIf b ss (λ s. listAnswer s x y) (refusedWith (o .number))) ≤ 57
     go true (s ∷ ss) = told-most s x y n m
     go true [] = omega arith
     go false ss = omega arith
@@ -43,7 +43,7 @@ pub arguments-most : (a : InstructionArguments) → SomeNarrow (a .«first_argum
     → lengthOf (argumentsText a) ≤ 57
 arguments-most a n m = go (a .«first_argument») (a .«second_argument») (selectedSize a) n m
   where
-    go : (f g : SomeArgument) (o : Outcome ArgumentSize) → SomeNarrow f → SomeNarrow g → lengthOf (argumentsOf f g o) ≤ 57
+    go : (f g : SomeArgument) (o : Outcome ArgumentSize) → SomeNarrow f → SomeNarrow g → lengthOf (argumentsAnswer f g o) ≤ 57
     go some.Absent some.Absent o n m = omega arith
     go some.Absent (some.Present y) o n m = omega arith
     go (some.Present x) y o n m = sized-most o x y n m

@@ -1,4 +1,4 @@
--- 01's examples of operands' texts, and the longest, computed. Assumes nothing.
+-- The examples of operands' texts (RULES 10.14), and the longest (RULES 6.9), computed. Assumes nothing.
 use mathlib.Core.Bool.{false}
 use mathlib.Core.List.{[], _∷_}
 use mathlib.Core.Path.{_≡_, refl}
@@ -15,21 +15,21 @@ use Rattle.instruction_set.specs.declared.SomeOpcode.the-variants as opcode
 use Rattle.instruction_set.specs.declared.SomeRegister.the-variants as reg
 use Rattle.instruction_set.specs.declared.SomeScale.the-variants as scale
 use Rattle.instruction_set.specs.declared.SomeSize.the-variants as size
-use Rattle.pieces.specs.Ascii.{ascii}
-use Rattle.pieces.specs.Hex.{hexDigits}
-use Rattle.register_names.specs.Names.{nameOf}
-use Rattle.text.specs.Answers.{says, declines}
-use Rattle.text.specs.Arguments.{operandTold, argumentsText}
+use Rattle.text_pieces.specs.Ascii.{ascii}
+use Rattle.text_pieces.specs.Hex.{hexDigits}
+use Rattle.text_names.specs.Names.{nameOf}
+use Rattle.text.specs.Answers.{textIs, refusedWith}
+use Rattle.text.specs.Arguments.{operandAnswer, argumentsText}
 use Rattle.text.proofs.Longest.{lengthOf}
 
 -- `-0x8(%rbp)`; -1 at Bit8 `$0xff`; `0x0(,%rcx,8)`; lowest displacement alone `-0x80000000`; and an index without a scale
-pub examples : operandTold Bit64 (EffectiveAddress (reg.Present RBP) reg.Absent scale.Absent (negsuc 7))
-    ∷ operandTold Bit8 (Immediate 18446744073709551615)
-    ∷ operandTold Bit64 (EffectiveAddress reg.Absent (reg.Present RCX) (scale.Present 8) (pos 0))
-    ∷ operandTold Bit64 (EffectiveAddress reg.Absent reg.Absent scale.Absent (negsuc 2147483647))
-    ∷ operandTold Bit64 (EffectiveAddress reg.Absent (reg.Present RCX) scale.Absent (pos 0))
+pub examples : operandAnswer Bit64 (EffectiveAddress (reg.Present RBP) reg.Absent scale.Absent (negsuc 7))
+    ∷ operandAnswer Bit8 (Immediate 18446744073709551615)
+    ∷ operandAnswer Bit64 (EffectiveAddress reg.Absent (reg.Present RCX) (scale.Present 8) (pos 0))
+    ∷ operandAnswer Bit64 (EffectiveAddress reg.Absent reg.Absent scale.Absent (negsuc 2147483647))
+    ∷ operandAnswer Bit64 (EffectiveAddress reg.Absent (reg.Present RCX) scale.Absent (pos 0))
     ∷ []
-    ≡ says (ascii "-0x8(%rbp)") ∷ says (ascii "$0xff") ∷ says (ascii "0x0(,%rcx,8)") ∷ says (ascii "-0x80000000") ∷ declines 3 ∷ []
+    ≡ textIs (ascii "-0x8(%rbp)") ∷ textIs (ascii "$0xff") ∷ textIs (ascii "0x0(,%rcx,8)") ∷ textIs (ascii "-0x80000000") ∷ refusedWith 3 ∷ []
 unfolding cut leadingZeros hexDigits nameOf
 examples = refl
 

@@ -1,4 +1,4 @@
--- What is told of operands and of the arguments record: the text, or a refusal in its place (01, "Text").
+-- What is told of operands and of the arguments record: the text, or a refusal instead (RULES 6.3 to 6.6, 7.3).
 use mathlib.Core.Bool.{Bool, true, false}
 use mathlib.Core.List.{[]}
 use Rattle.utils.specs.Outcome.{Outcome, onValue}
@@ -9,30 +9,30 @@ use Rattle.instruction_set.specs.declared.InstructionArgument.{InstructionArgum
 use Rattle.instruction_set.specs.declared.InstructionArguments.{InstructionArguments}
 use Rattle.instruction_set.specs.declared.SomeArgument.{SomeArgument}
 use Rattle.instruction_set.specs.declared.SomeArgument.the-variants as some
-use Rattle.operand_text.specs.Operands.{operandText, listText}
-use Rattle.text.specs.Answers.{Told, says, declines}
+use Rattle.text_operands.specs.Operands.{operandText, listText}
+use Rattle.text.specs.Answers.{TextOrRefusal, textIs, refusedWith}
 
--- 3: "an index has no scale, where it is used"
-abbrev pub unless3 : Bool → Told → Told
-unless3 true o = declines 3
+-- 3: an index without a scale is to be printed (RULES 3.3)
+abbrev pub unless3 : Bool → TextOrRefusal → TextOrRefusal
+unless3 true o = refusedWith 3
 unless3 false o = o
 
-abbrev pub operandTold : ArgumentSize → InstructionArgument → Told
-operandTold size x = unless3 (lacksScale x) (says (operandText size x))
+abbrev pub operandAnswer : ArgumentSize → InstructionArgument → TextOrRefusal
+operandAnswer size x = unless3 (lacksScale x) (textIs (operandText size x))
 
-abbrev pub listTold : ArgumentSize → InstructionArgument → SomeArgument → Told
-listTold size x y = unless3 (lacksScale x) (unless3 (someLacksScale y) (says (listText size x y)))
+abbrev pub listAnswer : ArgumentSize → InstructionArgument → SomeArgument → TextOrRefusal
+listAnswer size x y = unless3 (lacksScale x) (unless3 (someLacksScale y) (textIs (listText size x y)))
 
--- "size selection follows `size()`", with its refusals 9 and 8
-abbrev pub atSize : Outcome ArgumentSize → (ArgumentSize → Told) → Told
-atSize o f = onValue o f (declines (o .number))
+-- at the size that is selected, with its refusals 9 and 8 (RULES 5.6)
+abbrev pub atSize : Outcome ArgumentSize → (ArgumentSize → TextOrRefusal) → TextOrRefusal
+atSize o f = onValue o f (refusedWith (o .number))
 
--- "No arguments give empty text"; 9: "no first argument where one is needed"
-abbrev pub argumentsOf : SomeArgument → SomeArgument → Outcome ArgumentSize → Told
-argumentsOf some.Absent some.Absent o = says []
-argumentsOf some.Absent (some.Present y) o = declines 9
-argumentsOf (some.Present x) y o = atSize o (λ s. listTold s x y)
+-- no operand gives empty text; a second without a first is refused with 9 (RULES 6.6)
+abbrev pub argumentsAnswer : SomeArgument → SomeArgument → Outcome ArgumentSize → TextOrRefusal
+argumentsAnswer some.Absent some.Absent o = textIs []
+argumentsAnswer some.Absent (some.Present y) o = refusedWith 9
+argumentsAnswer (some.Present x) y o = atSize o (λ s. listAnswer s x y)
 
--- "Text checks 9, 8, 3, 7"
-abbrev pub argumentsText : InstructionArguments → Told
-argumentsText a = argumentsOf (a .«first_argument») (a .«second_argument») (selectedSize a)
+-- so 9, 8, 3 are given in this order, and 7 after them (RULES 7.3)
+abbrev pub argumentsText : InstructionArguments → TextOrRefusal
+argumentsText a = argumentsAnswer (a .«first_argument») (a .«second_argument») (selectedSize a)

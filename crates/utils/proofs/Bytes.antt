@@ -38,7 +38,7 @@ from-padded [] zero = refl
 from-padded [] (suc n) = let h : fromBytes ([] ++ replicate n 0) ≡ 0 = from-padded [] n in omega arith
 from-padded (b ∷ bs) n = ap (λ (y : ℕ). b + 2 ^ 8 * y) (from-padded bs n)
 
--- the bytes from place n on: that byte, and those above it
+-- the bytes from byte n on: that byte, and those above it
 pub from-at : (bs : List ℕ) (n : ℕ) → fromBytes (drop n bs) ≡ getD bs n 0 + 2 ^ 8 * fromBytes (drop (suc n) bs)
 unfolding fromBytes
 from-at [] zero = refl

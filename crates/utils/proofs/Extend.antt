@@ -48,7 +48,7 @@ extend-cut n f x =
 pub extend-low : (n x : ℕ) → extend n x ≡ extend n (cut x 0 n)
 extend-low n x = sym (extend-cut n 0 x ∙ ap (extend n) (div-one x))
 
--- ---- how `sign_extend` computes it, with k the place of the sign bit
+-- ---- how `sign_extend` computes it, with k the number of the sign bit
 -- the power that a shift of 1 gives
 pub power : (k : ℕ) → k < 64 → 1 * 2 ^ k % 2 ^ 64 ≡ 2 ^ k
 power k h = let l : 2 ^ k < 2 ^ 64 = pow-lt h in let e : 1 * 2 ^ k ≡ 2 ^ k = omega arith in rw e (mod-eq-of-lt l)

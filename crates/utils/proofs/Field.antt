@@ -109,7 +109,7 @@ put-exchange x f n v =
     ap (λ (y : ℕ). x / 2 ^ (f + n) * 2 ^ (f + n) + y) (rw c (sym (mod-pow-add x n f))) ∙ split x (f + n) in
     omega (arith, s)
 
--- so: a field put in as it stands changes nothing, of two put into one place the last counts, and two that lie apart may change places
+-- so: a field put in as it stands changes nothing, of two put at one bit the last counts, and two that lie apart may be exchanged
 pub put-same : (x f n : ℕ) → put x f n (cut x f n) ≡ x
 put-same x f n =
     let c : cut x f n % 2 ^ n ≡ cut x f n = mod-eq-of-lt (cut-lt x f n) in

@@ -43,7 +43,7 @@ module _ (k : ℕ) (some : 1 ≤ k) (most : k ≤ 64) where
       let l : 2 ^ k ≤ 2 ^ 64 = pow-mono most in
       rw (low-part m h, le-ltb (2 ^ k - suc m) (2 ^ (k - 1)) (omega arith)) (omega arith)
 
--- "signed values to 1, 2, 4 or 8 bytes", and back
+-- signed values to 1, 2, 4 or 8 bytes (RULES 1.5), and back
 pub signed-back : (n : ℕ) (z : ℤ) → 1 ≤ n → n ≤ 8 → mag z < 2 ^ (8 * n - 1)
     → toZ w64 (extend (8 * n) (fromBytes (toBytes n (ofZ w64 z)))) ≡ z
 signed-back n z a b h =

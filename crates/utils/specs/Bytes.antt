@@ -1,4 +1,4 @@
--- Numbers as bytes, low byte first (01, "Files, leaves first", 1, and "Memory values are low byte first").
+-- Numbers as bytes, low byte first (RULES 1.3).
 use mathlib.Core.List.{List, [], _∷_}
 use Prim.Native.Nat.{ℕ, zero, suc, _+_, _*_, _/_, _%_, _^_}
 

@@ -1,6 +1,6 @@
--- What an answer says, in the terms of document 01: a number, 0 where the call is accepted and otherwise that of its table "Refusal
--- numbers" (13: document 02), and the values that come with it. For each answer enum of the house one definition gives each case's outcome;
--- contracts or promises speak of that.
+-- What an answer says: a number, 0 where the call is accepted and otherwise that of the refusal (RULES 7.1), and the values that come
+-- with it. For each answer enum of the house one definition gives each case's outcome (RULES 9.3), and contracts or promises speak of
+-- that.
 use mathlib.Core.Bool.{Bool, true, false}
 use mathlib.Core.List.{List, [], _∷_}
 use Prim.Native.Nat.{ℕ}
@@ -13,7 +13,8 @@ pub record Outcome (X : Type 0) : Type 0 where
 abbrev pub gives : {X : Type 0} → List X → Outcome X
 gives vs = record { number = 0; values = vs }
 
--- a refusal yields its number, which is not 0, and what it says besides: 6 how many slots lack and 13 its place (02), the others nothing
+-- a refusal yields its number, which is not 0, and what it says besides (RULES 7.5): 6 how many slots lack, 13 an offset in the text, the
+-- others nothing
 abbrev pub refusesWith : {X : Type 0} → ℕ → List X → Outcome X
 refusesWith n vs = record { number = n; values = vs }
 

@@ -1,7 +1,8 @@
 // Words: the ground of the house. A value of the machine is a u64, bit for bit the Rust's i64 (docs/DECISIONS.md, "Values are words").
 // Here stand the conversions of src/utils.rs, sign extension and the wrapping product; specs/ says what fields of bits, sign extension
-// and bytes are, and proofs/ has their laws, each once over offset and width. Every crate but pieces stands on this one, and it on none.
-// Document 01: "Files, leaves first", 1; "sign-extended" in "Registers and flags"; "Every sum and product is taken modulo 2^64".
+// and bytes are, and proofs/ has their laws, each once over first bit and width. It stands on no crate, and nearly every other one stands
+// on it.
+// It carries RULES 1.1 to 1.5, and what the outcome of an answer is, 9.3.
 ghost use mathlib.Core.Path.{_≡_};
 ghost use Prim.Native.Nat.{_*_, _%_, _^_, _<_};
 ghost use lib.IntN.{natAbs};
@@ -10,7 +11,7 @@ ghost use mir.Val.{ofZ, toZ};
 ghost use Rattle.utils.specs.Bytes.{toBytes, fromBytes};
 ghost use Rattle.utils.specs.Word.{extend};
 
-// The 64 bits of a signed number.
+// The 64 bits of a signed number (RULES 1.1).
 pub fn word_of(value: i64) -> u64
     ensures { λ r. ⌜ r ≡ ofZ w64 value ⌝ }
 {
@@ -20,7 +21,7 @@ pub fn word_of(value: i64) -> u64
     value as u64
 }
 
-// The signed reading of a word.
+// The signed reading of a word (RULES 1.1).
 pub fn signed(word: u64) -> i64
     ensures { λ r. ⌜ r ≡ toZ w64 word ⌝ }
 {
@@ -30,7 +31,7 @@ pub fn signed(word: u64) -> i64
     -((0xFFFF_FFFF_FFFF_FFFF - word) as i64) - 1
 }
 
-// How far a displacement is from 0.
+// How far a displacement is from 0: of the lowest one, -2^31, it is 2^31.
 pub fn magnitude(value: i32) -> u64
     ensures { λ r. ⌜ r ≡ natAbs value ⌝ }
 {
@@ -41,7 +42,7 @@ pub fn magnitude(value: i32) -> u64
     wide as u64
 }
 
-// The low bits of a word read as a signed number. No bits read 0, and 64 or more are the word itself.
+// The low bits of a word read as a signed number (RULES 1.4). No bits read 0, and 64 or more are the word itself.
 pub fn sign_extend(word: u64, bits: u32) -> u64
     ensures { λ r. ⌜ r ≡ extend bits word ⌝ }
 {
@@ -59,7 +60,7 @@ pub fn sign_extend(word: u64, bits: u32) -> u64
     low + (0xFFFF_FFFF_FFFF_FFFF - half + 1)
 }
 
-// a * b modulo 2^64, by halves of 32 bits.
+// a * b modulo 2^64 (RULES 1.2), by halves of 32 bits.
 pub fn wrapping_mul(a: u64, b: u64) -> u64
     ensures { λ r. ⌜ r ≡ a * b % 2 ^ 64 ⌝ }
 {
@@ -71,7 +72,7 @@ pub fn wrapping_mul(a: u64, b: u64) -> u64
     std::num::wrapping_add_u64(middle, a_low * b_low)
 }
 
-// A word as bytes, low byte first.
+// A word as its eight bytes, low byte first (RULES 1.3).
 pub fn word_to_bytes(word: u64) -> [u8; 8]
     ensures { λ r. ⌜ r ≡ toBytes 8 word ⌝ }
 {
@@ -93,7 +94,7 @@ fn wide(byte: u8) -> u64
     byte as u64
 }
 
-// Bytes, low byte first, as a word.
+// The word that eight bytes are, low byte first (RULES 1.3).
 pub fn bytes_to_word(bytes: [u8; 8]) -> u64
     ensures { λ r. ⌜ r ≡ fromBytes bytes ⌝ }
 {
@@ -107,6 +108,7 @@ pub fn bytes_to_word(bytes: [u8; 8]) -> u64
         + wide(bytes[7]) * 0x100_0000_0000_0000
 }
 
+// The byte of a signed value of 8 bits (RULES 1.5, with the three below).
 pub fn convert_i8_to_u8vec(value: i8) -> [u8; 1]
     ensures { λ r. ⌜ r ≡ toBytes 1 (ofZ w64 value) ⌝ }
 {
@@ -114,6 +116,7 @@ pub fn convert_i8_to_u8vec(value: i8) -> [u8; 1]
     [bytes[0]]
 }
 
+// The two bytes of a signed value of 16 bits, low byte first.
 pub fn convert_i16_to_u8vec(value: i16) -> [u8; 2]
     ensures { λ r. ⌜ r ≡ toBytes 2 (ofZ w64 value) ⌝ }
 {
@@ -121,6 +124,7 @@ pub fn convert_i16_to_u8vec(value: i16) -> [u8; 2]
     [bytes[0], bytes[1]]
 }
 
+// The four bytes of a signed value of 32 bits, low byte first.
 pub fn convert_i32_to_u8vec(value: i32) -> [u8; 4]
     ensures { λ r. ⌜ r ≡ toBytes 4 (ofZ w64 value) ⌝ }
 {
@@ -128,6 +132,7 @@ pub fn convert_i32_to_u8vec(value: i32) -> [u8; 4]
     [bytes[0], bytes[1], bytes[2], bytes[3]]
 }
 
+// The eight bytes of a signed value of 64 bits, low byte first.
 pub fn convert_i64_to_u8vec(value: i64) -> [u8; 8]
     ensures { λ r. ⌜ r ≡ toBytes 8 (ofZ w64 value) ⌝ }
 {

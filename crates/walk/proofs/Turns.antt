@@ -1,13 +1,13 @@
 -- One turn of the loop that reads page by page: how a part joins those before it. The idea: a part is `filled` from the function "byte k
--- of the access", so that parts end to end are one (runs: Filled.filled-add).
+-- of the access", so that parts end to end are one (`byte_runs`: Filled.filled-add).
 use mathlib.Core.Path.{_≡_, refl, _∙_}
 use mathlib.Core.List.{List}
 use Prim.Native.Nat.{ℕ, _+_, _*_}
 use native.Mathlib.Nat.{zero-add, add-assoc}
 use lib.ListN.{length}
-use Rattle.runs.specs.Runs.{filled}
+use Rattle.byte_runs.specs.Runs.{filled}
 use Rattle.store.specs.Store.{Store, bytesFrom, readAt}
-use Rattle.runs.proofs.Filled.{filled-ext, filled-add, filled-all}
+use Rattle.byte_runs.proofs.Filled.{filled-ext, filled-add, filled-all}
 
 pub read-step : (s : Store) (p : ℕ) (out₀ out o : List ℕ) (g off done n : ℕ) → 4096 * g + off ≡ p + done
     → out ≡ filled out₀ 0 (bytesFrom s p) done

@@ -1,12 +1,14 @@
 // Reads of the bytes from a physical address on, page by page, as the Rust's loop goes, for as many pages as there are.
-// The page number only grows: after page 2^52 - 1 comes page 2^52 (01: "without wrap").
+// The page number only grows: after page 2^52 - 1 comes page 2^52 (RULES 3.10).
 ghost use mathlib.Core.Path.{_≡_};
 ghost use Prim.Native.Nat.{_+_, _*_, _≤_};
 ghost use lib.ListN.{length};
-ghost use Rattle.runs.specs.Runs.{filled};
-ghost use Rattle.store.specs.Store.{storeOf, bytesFrom, readAt};
-ghost use Rattle.store.specs.Facts.{Sound};
+ghost use Rattle.byte_runs.specs.Runs.{filled};
+ghost use Rattle.store.specs.Store.{pageSize, storeOf, bytesFrom, readAt};
+ghost use Rattle.store.specs.Facts.{IsStore};
 use store::Found;
+use store::PAGE_SIZE;
+use store::PAGE_STEP;
 use store::find_page;
 use store::part_length;
 
@@ -21,28 +23,28 @@ fn read_part(
     bytes: &[u8],
     used: usize,
 )
-    requires { ⌜ Sound (storeOf (now dir) (now bytes) used) × (off + n ≤ 4096) × (at + n ≤ length (now out)) ⌝ }
+    requires { ⌜ IsStore (storeOf (now dir) (now bytes) used) × (off + n ≤ pageSize) × (at + n ≤ length (now out)) ⌝ }
     ensures { λ _. ⌜ now (out .exit)
-        ≡ filled (now (out .entry)) at (bytesFrom (storeOf (now (dir .entry)) (now (bytes .entry)) used) (4096 * page + off)) n ⌝ }
+        ≡ filled (now (out .entry)) at (bytesFrom (storeOf (now (dir .entry)) (now (bytes .entry)) used) (pageSize * page + off)) n ⌝ }
 {
     let found = find_page(dir, used, page);
     match found {
         Found::At(i) => {
-            runs::copy(out, at, bytes, 4096 * i + off, n);
+            byte_runs::copy(out, at, bytes, PAGE_SIZE * i + off, n);
         }
         Found::Nothing => {
-            runs::fill(out, at, n, 0);
+            byte_runs::fill(out, at, n, 0);
         }
     }
 }
 
 // out becomes the bytes from physical p on.
 pub(crate) fn read_pages(p: u64, out: &mut [u8], dir: &[u64], bytes: &[u8], used: usize)
-    requires { ⌜ Sound (storeOf (now dir) (now bytes) used) ⌝ }
+    requires { ⌜ IsStore (storeOf (now dir) (now bytes) used) ⌝ }
     ensures { λ _. ⌜ now (out .exit) ≡ readAt (storeOf (now (dir .entry)) (now (bytes .entry)) used) p (length (now (out .entry))) ⌝ }
 {
-    let mut page = p / 4096;
-    let mut off = (p % 4096) as usize;
+    let mut page = p / PAGE_STEP;
+    let mut off = (p % PAGE_STEP) as usize;
     let mut done: usize = 0;
     while done < out.len() {
         let n = part_length(off, out.len() - done);

@@ -1,10 +1,10 @@
-// Memory as it is written: bytes go to a physical address, page by page, and each absent page takes a slot (src/mmu.rs of the Rust). Below are
-// runs, which moves bytes, and store, which searches the directory and counts absent pages; above is mmu, whose write checks what is lent and
-// translates the address first. It carries document 01, "Addresses, pages, walk": "A write takes a slot for each absent page it touches, lowest page
-// first, at the end of the slots in use, and the slot is cleared before bytes go in", "without wrap", and the test of refusal 6; document 02, No. 5: how
-// many slots lack. Its one public function takes every input, and writes all or nothing. specs/Writes.antt says what it leaves.
+// Memory as it is written: bytes go to a physical address, page by page, and each absent page takes a slot (src/mmu.rs of the Rust).
+// Below are `byte_runs`, which moves bytes, and store, which searches the directory and counts absent pages; above is mmu, whose write checks
+// what is lent and translates the address first. Its one public function takes every input, and writes all or nothing. specs/Writes.antt
+// says what it leaves.
+// It carries RULES 3.9 and 3.10, the test of refusal 6, and how many slots lack, 7.5.
 ghost use Rattle.store.specs.Store.{storeOf};
-ghost use Rattle.store.specs.Facts.{Sound};
+ghost use Rattle.store.specs.Facts.{IsStore};
 ghost use Rattle.writes.specs.Writes.{Stored};
 
 mod pages; // pages.rt: writes of physical bytes, page by page
@@ -22,8 +22,8 @@ pub struct Placed {
     pub used: usize,
 }
 
-// data goes to the bytes from physical p on, if the lent slices are a store and have a slot for each absent page. Within one page that has a slot
-// it is copied at once, for no slot is wanted: the directory is searched once.
+// data goes to the bytes from physical p on, if the lent slices are a store and have a slot for each absent page (RULES 3.9, 3.10).
+// Within one page that has a slot it is copied at once, for no slot is needed: the directory is searched once.
 pub fn mem_write_phys(p: u64, data: &[u8], dir: &mut [u64], bytes: &mut [u8], used: usize) -> Placed
     ensures { λ r. ⌜ Stored (storeOf (now (dir .entry)) (now (bytes .entry)) used) (storeOf (now (dir .exit)) (now (bytes .exit)) (r .used))
         p (now («data» .entry)) (r .done) (r .lacking) ⌝ }
@@ -38,8 +38,8 @@ pub fn mem_write_phys(p: u64, data: &[u8], dir: &mut [u64], bytes: &mut [u8], us
     let found = slot_of(p, data.len(), dir, used);
     match found {
         Found::At(i) => {
-            let off = (p % 4096) as usize;
-            runs::copy(bytes, 4096 * i + off, data, 0, data.len());
+            let off = (p % store::PAGE_STEP) as usize;
+            byte_runs::copy(bytes, store::PAGE_SIZE * i + off, data, 0, data.len());
             Placed {
                 done: true,
                 lacking: 0,
@@ -50,9 +50,9 @@ pub fn mem_write_phys(p: u64, data: &[u8], dir: &mut [u64], bytes: &mut [u8], us
     }
 }
 
-// The same, page by page: the absent pages are counted first, and those that find no unused slot are what lacks.
+// The same, page by page: the absent pages are counted first, and those that find no unused slot are what lacks (RULES 7.5).
 fn write_counted(p: u64, data: &[u8], dir: &mut [u64], bytes: &mut [u8], used: usize) -> Placed
-    requires { ⌜ Sound (storeOf (now dir) (now bytes) used) ⌝ }
+    requires { ⌜ IsStore (storeOf (now dir) (now bytes) used) ⌝ }
     ensures { λ r. ⌜ Stored (storeOf (now (dir .entry)) (now (bytes .entry)) used) (storeOf (now (dir .exit)) (now (bytes .exit)) (r .used))
         p (now («data» .entry)) (r .done) (r .lacking) ⌝ }
 {

@@ -1,25 +1,27 @@
 // Writes of the bytes from a physical address on, page by page, as the Rust's loop goes, for as many pages as there are.
-// The page number only grows: after page 2^52 - 1 comes page 2^52 (01: "without wrap").
+// The page number only grows: after page 2^52 - 1 comes page 2^52 (RULES 3.10).
 ghost use mathlib.Core.Path.{_≡_};
 ghost use Prim.Native.Nat.{_+_, _*_, _<_};
 ghost use lib.ListN.{length};
-ghost use Rattle.runs.specs.Runs.{bytesOf};
-ghost use Rattle.store.specs.Store.{storeOf, taken, written};
-ghost use Rattle.store.specs.Facts.{Sound};
+ghost use Rattle.byte_runs.specs.Runs.{copiedFrom};
+ghost use Rattle.store.specs.Store.{pageSize, storeOf, slotTaken, written};
+ghost use Rattle.store.specs.Facts.{IsStore};
 ghost use Rattle.writes.specs.Writes.{byteOf};
-ghost use Rattle.writes.specs.Parts.{Ready, Fits};
+ghost use Rattle.writes.specs.Private.{Ready, Fits};
 use store::Found;
+use store::PAGE_SIZE;
+use store::PAGE_STEP;
 use store::find_page;
 use store::part_length;
 
-// An absent page takes the slot at the end of those in use, cleared: stale bytes must not show.
+// An absent page takes the slot at the end of those in use, cleared (RULES 3.9): stale bytes must not show.
 fn take_slot(page: u64, dir: &mut [u64], bytes: &mut [u8], used: usize)
-    requires { ⌜ Sound (storeOf (now dir) (now bytes) used) × (used < length (now dir)) ⌝ }
+    requires { ⌜ IsStore (storeOf (now dir) (now bytes) used) × (used < length (now dir)) ⌝ }
     ensures { λ _. ⌜ storeOf (now (dir .exit)) (now (bytes .exit)) (used + 1)
-        ≡ taken (storeOf (now (dir .entry)) (now (bytes .entry)) used) page ⌝ }
+        ≡ slotTaken (storeOf (now (dir .entry)) (now (bytes .entry)) used) page ⌝ }
 {
     dir[used] = page;
-    runs::fill(bytes, 4096 * used, 4096, 0);
+    byte_runs::fill(bytes, PAGE_SIZE * used, PAGE_SIZE, 0);
 }
 
 // n bytes of data from `from` on go into one page from off on; an absent page takes a slot. Returns the slots in use.
@@ -35,17 +37,17 @@ fn write_part(
 ) -> usize
     requires { ⌜ Ready (storeOf (now dir) (now bytes) used) page off n from (length (now «data»)) ⌝ }
     ensures { λ r. ⌜ storeOf (now (dir .exit)) (now (bytes .exit)) r
-        ≡ written (storeOf (now (dir .entry)) (now (bytes .entry)) used) (4096 * page + off) (bytesOf (now («data» .entry)) from) n ⌝ }
+        ≡ written (storeOf (now (dir .entry)) (now (bytes .entry)) used) (pageSize * page + off) (copiedFrom (now («data» .entry)) from) n ⌝ }
 {
     let found = find_page(dir, used, page);
     match found {
         Found::At(i) => {
-            runs::copy(bytes, 4096 * i + off, data, from, n);
+            byte_runs::copy(bytes, PAGE_SIZE * i + off, data, from, n);
             used
         }
         Found::Nothing => {
             take_slot(page, dir, bytes, used);
-            runs::copy(bytes, 4096 * used + off, data, from, n);
+            byte_runs::copy(bytes, PAGE_SIZE * used + off, data, from, n);
             used + 1
         }
     }
@@ -63,8 +65,8 @@ pub(crate) fn write_pages(
     ensures { λ r. ⌜ storeOf (now (dir .exit)) (now (bytes .exit)) r
         ≡ written (storeOf (now (dir .entry)) (now (bytes .entry)) used) p (byteOf (now («data» .entry))) (length (now («data» .entry))) ⌝ }
 {
-    let mut page = p / 4096;
-    let mut off = (p % 4096) as usize;
+    let mut page = p / PAGE_STEP;
+    let mut off = (p % PAGE_STEP) as usize;
     let mut done: usize = 0;
     let mut count = used;
     while done < data.len() {

@@ -8,7 +8,8 @@ use Rattle.drive.proofs.write_answer.Tie as tie
 
 slice-aggregate-write-all-2 : tie.Need-slice-aggregate-write-all-2
 slice-aggregate-write-all-2 c =
-    let start = c .before .before .before .before .before .before .before .before in
+    let out = c .before .before .before .before in
+    let start = out .before .before .before .before in
     sym (length-take-le (start .args .carried .reply .given) (start .args .block .now) (omega arith))
 
 pub write-answer-spec : {M : Type 1} → statement M

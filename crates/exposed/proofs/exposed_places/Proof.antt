@@ -3,9 +3,9 @@
 use lib.ListN.{length}
 use native.Mathlib.Omega.{arith}
 use Rattle.exposed.proofs.Marking.{Listing, listing-none, listing-more, listing-done, listing-refused, listing-long}
-use Rattle.rows.proofs.Inside.{reads-inside, rewrites-inside}
+use Rattle.effects.proofs.Inside.{reads-inside, rewrites-inside}
 use borrow.Author.Needs.{needs}
-use Rattle.rows.specs.Rows.{Inside}
+use Rattle.effects.specs.Rows.{Inside}
 use mathlib.Core.Path.{_≡_, refl, subst, _∙_}
 use Prim.Native.Nat.{ℕ}
 use Rattle.exposed.proofs.exposed_places.Statement.{statement}

@@ -1,7 +1,7 @@
 -- `exposed::mark_from` meets its contract: with each turn the part of the span that is marked grows by one place. Assumes nothing.
 use Rattle.exposed.proofs.Marking.{mark-none, mark-more}
 use native.Mathlib.Omega.{arith}
-use Rattle.rows.specs.Rows.{span, inSpan}
+use Rattle.effects.specs.Rows.{span, inSpan}
 use Rattle.exposed.specs.Reported.{Marked}
 use borrow.Author.Needs.{needs}
 use mathlib.Core.Path.{_≡_, subst}

@@ -1,9 +1,4 @@
--- `fields::memory_value` meets its contract: each arm gives what the definition says, and a byte that is cut off is a
--- word of 64 bits, which extending leaves as it is. Assumes nothing.
-use Rattle.utils.proofs.Extend.{extend-whole}
-use native.Mathlib.Omega.{arith}
-use mathlib.Core.Path.{_∙_}
-use Prim.Native.Nat.{_%_}
+-- `fields::memory_value` meets its contract: each arm gives what the definition says. Assumes nothing.
 use borrow.Author.Needs.{needs}
 use Rattle.fields.proofs.memory_value.Statement.{statement}
 use Rattle.fields.proofs.memory_value.Tie as tie
@@ -15,13 +10,10 @@ returns-3 : tie.Need-returns-3
 returns-3 c = rw (c .before .enum-told3 .given .1) (c .sign-extend2 .ensures)
 
 returns-4 : tie.Need-returns-4
-returns-4 c =
-    let start = c .before .before .before in
-    let byte = start .args .word % 256 in
-    rw (c .before .enum-told4 .given .1) (c .sign-extend3 .ensures ∙ extend-whole 64 byte (omega arith) (omega arith))
+returns-4 c = rw (c .enum-told4 .given .1)
 
 pub memory-value-spec : {M : Type 1} → statement M
 memory-value-spec =
     tie.close
     (tie.spec (λ c. search needs) (λ c. search needs) (λ c κs. search needs) (λ c. search needs) (λ c κs. search needs)
-    (λ c. search needs) (λ c κs. search needs) (λ c. search needs) returns-2 returns-3 returns-4)
+    (λ c. search needs) (λ c. search needs) returns-2 returns-3 returns-4)

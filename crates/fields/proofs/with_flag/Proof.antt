@@ -1,5 +1,5 @@
 -- `fields::with_flag` meets its contract: the old bit out and the new one in is what `put` does (BitOf). Assumes nothing.
-use Rattle.instruction_set.specs.Sizes.{bitOf}
+use Rattle.instruction_set.specs.Flags.{bitOf}
 use Rattle.fields.specs.FlagBits.{putFlag}
 use Rattle.fields.proofs.BitOf.{shifted-le, bit-in, bit-out, put-fits}
 use Rattle.instruction_set.proofs.Bounds.{bit-below}

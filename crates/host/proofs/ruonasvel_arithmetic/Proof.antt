@@ -6,6 +6,7 @@ use borrow.Author.Needs.{needs}
 use Rattle.host.proofs.ruonasvel_arithmetic.Statement.{statement}
 use Rattle.host.proofs.ruonasvel_arithmetic.Tie as tie
 
+-- no operation has the number
 returns : tie.Need-returns
 unfolding operatedOn
 returns c =
@@ -14,6 +15,7 @@ returns c =
     rw (sym (operation-at .operation-at .ensures), c .before .enum-told .given .1)
     (ap (lentAfter (start .args .machine .now)) (c .unnamed .ensures))
 
+-- no size has the number
 returns-2 : tie.Need-returns-2
 unfolding operatedOn
 returns-2 c =
@@ -29,6 +31,7 @@ returns-2 c =
     )
     (ap (lentAfter (start .args .machine .now)) (c .unnamed2 .ensures))
 
+-- computed
 returns-3 : tie.Need-returns-3
 unfolding operatedOn
 returns-3 c =

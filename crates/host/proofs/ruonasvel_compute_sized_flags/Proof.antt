@@ -6,12 +6,14 @@ use borrow.Author.Needs.{needs}
 use Rattle.host.proofs.ruonasvel_compute_sized_flags.Statement.{statement}
 use Rattle.host.proofs.ruonasvel_compute_sized_flags.Tie as tie
 
+-- no size has the number
 returns : tie.Need-returns
 unfolding sizedFlagsOn
 returns c =
     let size-at = c .before .before in
     rw (sym (size-at .size-at .ensures), c .enum-told .given .1) (refl, refl)
 
+-- computed
 returns-2 : tie.Need-returns-2
 unfolding sizedFlagsOn
 returns-2 c =

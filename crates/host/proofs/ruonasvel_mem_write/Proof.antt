@@ -8,7 +8,8 @@ returns : tie.Need-returns
 returns c =
     let lacking-of = c .before .before in
     let refusal-of = lacking-of .before in
-    let wrote = refusal-of .before .before .before .before .before .mem-write .ensures in
+    let back = refusal-of .before in
+    let wrote = back .before .before .before .before .mem-write .ensures in
     record {
       answer = rw (
         refusal-of .refusal-of .ensures,

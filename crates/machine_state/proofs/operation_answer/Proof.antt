@@ -1,4 +1,4 @@
--- `operation_answer` gives `answerOf`: its two ways out are the two of the definition. Assumes nothing.
+-- `operation_answer` gives `operationAnswer`: its two ways out are the two of the definition. Assumes nothing.
 use mathlib.Core.Path.{sym}
 use borrow.Author.Needs.{needs}
 use Rattle.machine_state.proofs.operation_answer.Statement.{statement}

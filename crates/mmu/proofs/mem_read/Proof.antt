@@ -8,11 +8,13 @@ use borrow.Author.Needs.{needs}
 use Rattle.mmu.proofs.mem_read.Statement.{statement}
 use Rattle.mmu.proofs.mem_read.Tie as tie
 
+-- no store
 returns : tie.Need-returns
 returns c =
     let o = read-bad _ _ (sym (c .before .is-store .ensures) ∙ not-true _ (c .if1 .taken)) in
     (sym o, sym (out-refused _ _ _ _ _ (omega arith) o))
 
+-- too long
 returns-2 : tie.Need-returns-2
 returns-2 c =
     let is-store = c .before .before in
@@ -22,6 +24,7 @@ returns-2 c =
     (sym (is-store .is-store .ensures) ∙ not-false _ (c .before .if1 .left)) (omega (arith, c .if2 .taken)) in
     (sym o, sym (out-refused _ _ _ _ _ (omega arith) o))
 
+-- no bytes
 returns-3 : tie.Need-returns-3
 returns-3 c =
     let if1 = c .before .before in
@@ -35,6 +38,7 @@ returns-3 c =
           ∙ sym (out-done _ _ _ _ o),
     )
 
+-- the bytes at the place to which the walk leads
 returns-4 : tie.Need-returns-4
 returns-4 c =
     let mem-read-phys = c .before .before in

@@ -1,11 +1,12 @@
 -- `neighbours::depends` meets its contract: both reach memory, or the rows decide, which stand within the 182 places. Assumes nothing.
-use Rattle.rows.proofs.Inside.{reads-inside, rewrites-inside}
+use Rattle.effects.proofs.Inside.{reads-inside, rewrites-inside}
 use Rattle.neighbours.proofs.Test.{both-reach, places-decide}
 use mathlib.Core.Path.{sym}
 use borrow.Author.Needs.{needs}
 use Rattle.neighbours.proofs.depends.Statement.{statement}
 use Rattle.neighbours.proofs.depends.Tie as tie
 
+-- both reach memory
 returns : tie.Need-returns
 returns c =
     let reaches-memory = c .before .before in
@@ -13,6 +14,7 @@ returns c =
     sym (both-reach (start .args .a) (start .args .b)
     (rw (reaches-memory .reaches-memory .ensures, c .before .reaches-memory2 .ensures) at (c .if1 .taken)))
 
+-- each row stands within the 182 places
 rows-meet-requires : tie.Need-rows-meet-requires
 rows-meet-requires c κs =
     let rewrites-of = c .before .before in
@@ -31,6 +33,7 @@ rows-meet-requires-3 c κs =
     let reads-of = rewrites-of2 .before .before .before in
     (rw (rewrites-of2 .rewrites-of2 .ensures) (rewrites-inside _), rw (reads-of .reads-of .ensures) (reads-inside _))
 
+-- the rows decide
 returns-2 : tie.Need-returns-2
 returns-2 c =
     let rows-meet = c .before .before in

@@ -1,6 +1,6 @@
 -- `neighbours::rows_meet` meets its contract: each of the four spans against the other row. Assumes nothing.
 use Rattle.neighbours.proofs.Test.{rows-test}
-use Rattle.rows.specs.Rows.{inSpans}
+use Rattle.effects.specs.Rows.{inSpans}
 use borrow.Author.Needs.{needs}
 use Rattle.neighbours.proofs.rows_meet.Statement.{statement}
 use Rattle.neighbours.proofs.rows_meet.Tie as tie

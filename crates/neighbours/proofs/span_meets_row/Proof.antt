@@ -1,5 +1,5 @@
 -- `neighbours::span_meets_row` meets its contract: an empty span meets nothing, another is tried against each of the four. Assumes nothing.
-use Rattle.rows.specs.Rows.{inSpan}
+use Rattle.effects.specs.Rows.{inSpan}
 use Rattle.neighbours.proofs.Test.{empty-meets-none, row-test}
 use mathlib.Core.Path.{sym}
 use borrow.Author.Needs.{needs}

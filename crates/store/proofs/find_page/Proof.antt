@@ -21,6 +21,7 @@ loop-again-2 c =
     let s = loop .before .before .before .args in
     (omega arith, seek-more (s .dir .now) (s .page) (loop .loop .i) (loop .loop .inv .1) (omega arith) (c .if5 .left))
 
+-- among the first four of a turn
 returns : tie.Need-returns Inv-loop μ-loop
 returns c =
     let first = c .before in
@@ -29,6 +30,7 @@ returns c =
     sym (found-taken (s .used) (s .dir .now) (s .page) (loop .loop .i + first .among-four .result)
     (first .among-four .ensures .2 (c .if2 .taken)) (omega arith))
 
+-- among the next four
 returns-2 : tie.Need-returns-2 Inv-loop μ-loop
 returns-2 c =
     let second = c .before in
@@ -37,11 +39,14 @@ returns-2 c =
     sym (found-taken (s .used) (s .dir .now) (s .page) (loop .loop .i + 4 + second .among-four2 .result)
     (second .among-four2 .ensures .2 (c .if3 .taken)) (omega arith))
 
+-- in none
 returns-3 : tie.Need-returns-3 Inv-loop μ-loop
 returns-3 c =
-    let s = c .before .before .before .before .before .args in
+    let loop = c .before .before in
+    let s = loop .before .before .before .args in
     sym (none-taken (s .used) (s .dir .now) (s .page) (omega arith))
 
+-- in one of the last, which go one by one
 returns-4 : tie.Need-returns-4 Inv-loop μ-loop
 returns-4 c =
     let loop = c .before .before .before .before in

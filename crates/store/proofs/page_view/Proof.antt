@@ -1,5 +1,7 @@
 -- `page_view` gives `viewOf`: a slot found lies within the bytes, so that its part can be lent.
 use Rattle.store.proofs.View.{view-bad, view-odd, view-at, view-none}
+use Rattle.store.specs.Facts.{IsStore}
+use Rattle.store.specs.Store.{storeOf}
 use Rattle.store.proofs.Read.{sound-facts, slot-held}
 use borrow.Author.Tests.{not-true, not-false}
 use native.Mathlib.Omega.{arith}
@@ -8,11 +10,26 @@ use borrow.Author.Needs.{needs}
 use Rattle.store.proofs.page_view.Statement.{statement}
 use Rattle.store.proofs.page_view.Tie as tie
 
+-- back to what was given, by way of the test of the store
+abbrev tested : tie.After-find-page → tie.After-is-store
+tested c = c .before .before .before .before
+
+abbrev given : tie.After-find-page → tie.Start
+given c = tested c .before .before .before .before
+
+-- where the search is made the store is one, and what it finds lies within the bytes
+is-sound : (c : tie.After-find-page) → IsStore (storeOf (given c .args .dir .now) (given c .args .bytes .now) (given c .args .used))
+is-sound c =
+    let if1 = c .before .before .before in
+    sound-facts _ (sym (tested c .is-store .ensures) ∙ not-false _ (if1 .if1 .left))
+
+-- no store
 returns : tie.Need-returns
 returns c =
     let is-store = c .before .before in
     sym (view-bad _ _ _ (sym (is-store .is-store .ensures) ∙ not-true _ (c .before .if1 .taken)))
 
+-- no page of zeros
 returns-2 : tie.Need-returns-2
 returns-2 c =
     let is-zero-page = c .before .before in
@@ -23,37 +40,29 @@ returns-2 c =
 
 mul-from : tie.Need-mul-from
 mul-from c =
+    let find-page = c .before .before .before in
     omega (
       arith,
-      slot-held _
-          (sound-facts _
-          (sym (c .before .before .before .before .before .before .before .is-store .ensures)
-          ∙ not-false _ (c .before .before .before .before .before .before .if1 .left)))
-          _ _ (sym (c .before .before .before .find-page .ensures) ∙ c .before .found .given .1),
+      slot-held _ (is-sound find-page) _ _ (sym (find-page .find-page .ensures) ∙ c .before .found .given .1),
     )
 
 add-to : tie.Need-add-to
 add-to c =
+    let find-page = c .before .before .before in
     omega (
       arith,
-      slot-held _
-          (sound-facts _
-          (sym (c .before .before .before .before .before .before .before .is-store .ensures)
-          ∙ not-false _ (c .before .before .before .before .before .before .if1 .left)))
-          _ _ (sym (c .before .before .before .find-page .ensures) ∙ c .before .found .given .1),
+      slot-held _ (is-sound find-page) _ _ (sym (find-page .find-page .ensures) ∙ c .before .found .given .1),
     )
 
 part-result-end-3 : tie.Need-part-result-end-3
 part-result-end-3 c =
     let find-page = c .before .before .before in
-    let if1 = find-page .before .before .before in
-    let is-store = if1 .before in
     omega (
       arith,
-      slot-held _ (sound-facts _ (sym (is-store .is-store .ensures) ∙ not-false _ (if1 .if1 .left))) _ _
-          (sym (find-page .find-page .ensures) ∙ c .before .found .given .1),
+      slot-held _ (is-sound find-page) _ _ (sym (find-page .find-page .ensures) ∙ c .before .found .given .1),
     )
 
+-- the part of the slot found
 returns-3 : tie.Need-returns-3
 returns-3 c =
     let found = c .before .before in
@@ -66,6 +75,7 @@ returns-3 c =
     (sym (is-zero-page .is-zero-page .ensures) ∙ not-false _ (if2 .if2 .left)) (find-page .find-page .ensures)
     (found .found .given .1)
 
+-- the page of zeros
 returns-4 : tie.Need-returns-4
 returns-4 c =
     let find-page = c .before .before in

@@ -6,9 +6,11 @@ use borrow.Author.Needs.{needs}
 use Rattle.text.proofs.write_list.Statement.{statement}
 use Rattle.text.proofs.write_list.Tie as tie
 
+-- the first lacks a scale
 returns : tie.Need-returns
 returns c = declined (rw (← c .before .lacks-scale .ensures, c .if1 .taken))
 
+-- the second lacks a scale
 returns-2 : tie.Need-returns-2
 returns-2 c =
     let if1 = c .before .before in
@@ -20,6 +22,7 @@ returns-2 c =
       c .if2 .taken,
     ))
 
+-- longer than the buffer
 returns-3 : tie.Need-returns-3
 returns-3 c =
     let put-list = c .before .before in
@@ -35,6 +38,7 @@ returns-3 c =
     )
     (too-long (put-list .put-list .ensures) (omega arith) (c .if3 .taken))
 
+-- written
 returns-4 : tie.Need-returns-4
 returns-4 c =
     let put-list2 = c .before .before in

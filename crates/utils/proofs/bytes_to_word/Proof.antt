@@ -8,7 +8,8 @@ use Rattle.utils.proofs.bytes_to_word.Tie as tie
 
 returns : tie.Need-returns
 returns c =
-    let start = c .before .before .before .before .before .before .before .before in
+    let wide4 = c .before .before .before .before in
+    let start = wide4 .before .before .before .before in
     let e = from-eight (start .args .t1) (start .good .0 .1 .0 .1) in
     omega (arith, e)
 

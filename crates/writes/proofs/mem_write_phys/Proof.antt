@@ -4,22 +4,38 @@ use mathlib.Core.Path.{sym, _∙_}
 use native.Mathlib.Omega.{arith}
 use borrow.Author.Needs.{needs}
 use borrow.Author.Tests.{not-true, not-false}
-use Rattle.runs.proofs.Puts.{put-copied}
+use Rattle.byte_runs.proofs.Puts.{put-copied}
+use Rattle.store.specs.Facts.{IsStore}
+use Rattle.store.specs.Store.{storeOf}
 use Rattle.store.proofs.Read.{sound-facts, slot-held}
 use Rattle.store.proofs.Absent.{slot-at}
 use Rattle.writes.proofs.Stores.{stored-none, stored-here}
 use Rattle.writes.proofs.mem_write_phys.Statement.{statement}
 use Rattle.writes.proofs.mem_write_phys.Tie as tie
 
+-- from the search of a slot, over the test of the store and the lent slices that are known at the entry, to what was given
+abbrev given : tie.After-slot-of → tie.Start
+given c =
+    let is-store = c .before .before .before in
+    let entry = is-store .before .before .before in
+    entry .before .before .before
+
+-- where a slot is sought the store is one
+is-sound : (c : tie.After-slot-of) → IsStore (storeOf (given c .args .dir .now) (given c .args .bytes .now) (given c .args .used))
+is-sound c =
+    let if1 = c .before .before in
+    sound-facts _ (sym (if1 .before .is-store .ensures) ∙ not-false _ (if1 .if1 .left))
+
+-- no store
 returns : tie.Need-returns
 returns c = stored-none _ _ _ (sym (c .before .is-store .ensures) ∙ not-true _ (c .if1 .taken))
 
+-- a slot that is found lies within the bytes
 mul-copy : tie.Need-mul-copy
 mul-copy c =
     let found = c .before .before in
     let slot-of = found .before .before in
-    let if1 = slot-of .before .before in
-    let h = sound-facts _ (sym (if1 .before .is-store .ensures) ∙ not-false _ (if1 .if1 .left)) in
+    let h = is-sound slot-of in
     let w = slot-at _ _ _ _ (sym (slot-of .slot-of .ensures) ∙ found .found .given .1) in
     omega (arith, slot-held _ h _ _ (w .1))
 
@@ -27,24 +43,23 @@ add-copy : tie.Need-add-copy
 add-copy c =
     let found = c .before .before in
     let slot-of = found .before .before in
-    let if1 = slot-of .before .before in
-    let h = sound-facts _ (sym (if1 .before .is-store .ensures) ∙ not-false _ (if1 .if1 .left)) in
+    let h = is-sound slot-of in
     let w = slot-at _ _ _ _ (sym (slot-of .slot-of .ensures) ∙ found .found .given .1) in
     omega (arith, slot-held _ h _ _ (w .1))
 
 write-counted-requires : tie.Need-write-counted-requires
 write-counted-requires c κs =
-    let if1 = c .before .before .before .before .before .before in
-    sound-facts _ (sym (if1 .before .is-store .ensures) ∙ not-false _ (if1 .if1 .left))
+    let slot-of = c .before .before .before .before in
+    is-sound slot-of
 
+-- into the slot of the one page
 returns-2 : tie.Need-returns-2
 returns-2 c =
     let copy = c .before .before in
     let found = copy .before .before .before in
     let slot-of = found .before .before in
-    let if1 = slot-of .before .before in
-    let start = if1 .before .before .before .before .before .before .before in
-    let h = sound-facts _ (sym (if1 .before .is-store .ensures) ∙ not-false _ (if1 .if1 .left)) in
+    let start = given slot-of in
+    let h = is-sound slot-of in
     let q = sym (slot-of .slot-of .ensures) ∙ found .found .given .1 in
     let w = slot-at _ _ _ _ q in
     stored-here _ h _ _ (start .args .«data» .now) _ q

@@ -1,6 +1,6 @@
 -- `instruction_set::InstructionArguments::size` meets its contract: each way out is a clause of the definition, asked
 -- in the same order. Assumes nothing.
-use Rattle.instruction_set.specs.Arguments.{sizeOr}
+use Rattle.instruction_set.specs.Arguments.{registerSizeOr}
 use mathlib.Core.Path.{_∙_, ap}
 use borrow.Author.Needs.{needs}
 use Rattle.instruction_set.proofs.InstructionArguments.size.Statement.{statement}
@@ -27,7 +27,7 @@ returns-4 c =
     let first = second .before .before .before in
     let enum-told = first .before .before in
     rw (enum-told .enum-told .given .1, first .first .given .1, second .second .given .1)
-    (c .register-size-or3 .ensures ∙ ap (sizeOr (first .first .given .0 .0)) (c .before .register-size-or2 .ensures))
+    (c .register-size-or3 .ensures ∙ ap (registerSizeOr (first .first .given .0 .0)) (c .before .register-size-or2 .ensures))
 
 pub size-spec : {M : Type 1} → statement M
 size-spec =

@@ -6,18 +6,21 @@ use borrow.Author.Needs.{needs}
 use Rattle.machine_state.proofs.MachineState.get_value.Statement.{statement}
 use Rattle.machine_state.proofs.MachineState.get_value.Tie as tie
 
+-- a register
 returns : tie.Need-returns
 unfolding readOperand
 returns c =
     let arg = c .before .before .before in
     rw (c .quietly .ensures, c .before .get-register-value .ensures, arg .arg .given .1)
 
+-- an immediate
 returns-2 : tie.Need-returns-2
 unfolding readOperand
 returns-2 c =
     let arg2 = c .before .before in
     rw (c .quietly2 .ensures, arg2 .arg2 .given .1)
 
+-- memory, at the effective address
 returns-3 : tie.Need-returns-3
 returns-3 c =
     let address = c .before .before in
@@ -33,6 +36,7 @@ returns-3 c =
     )
     (c .load .ensures)
 
+-- an address that is refused
 returns-4 : tie.Need-returns-4
 returns-4 c =
     let address2 = c .before .before in

@@ -1,5 +1,5 @@
--- `machine_state::MachineState::load` meets its contract: the bytes read, with zeros above them, are the value (Steps,
--- `load-left`). Assumes nothing.
+-- `machine_state::MachineState::load` meets its contract: the bytes read, with zeros above them, make a word, and the
+-- value is that word at the size (Steps, `load-left`). Assumes nothing.
 use Rattle.fields.specs.Parts.{memoryValue}
 use lib.Seq.{length-take-le}
 use Rattle.machine_state.proofs.Steps.{load-left}

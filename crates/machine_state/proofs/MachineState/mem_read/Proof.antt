@@ -8,7 +8,8 @@ use Rattle.machine_state.proofs.MachineState.mem_read.Tie as tie
 returns : tie.Need-returns
 returns c =
     let mem-read = c .before .before .before .before in
-    let start = mem-read .before .before .before .before .before .before in
+    let entry = mem-read .before .before .before in
+    let start = entry .before .before .before in
     rw (c .quietly .ensures, c .before .from-memory .ensures)
     (read-left (start .args .t1) (start .args .dir .now) (start .args .bytes .now) (start .args .used)
     (start .args .address) (start .args .out .now) _ (mem-read .mem-read .result) (mem-read .mem-read .ensures .0)

@@ -7,8 +7,10 @@ use Rattle.machine_state.proofs.MachineState.mem_write.Tie as tie
 
 returns : tie.Need-returns
 returns c =
-    let mem-write = c .before .before .before .before .before .before in
-    let start = mem-write .before .before .before .before .before .before .before in
+    let back = c .before .before in
+    let mem-write = back .before .before .before .before in
+    let entry = mem-write .before .before .before .before in
+    let start = entry .before .before .before in
     rw (c .from-memory .ensures, c .before .event-shown .ensures)
     (write-left (start .args .t1) _ _ _ _ (start .args .address) (start .args .«data» .now) _ _
     (mem-write .mem-write .ensures))

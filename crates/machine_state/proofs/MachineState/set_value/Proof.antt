@@ -6,16 +6,19 @@ use borrow.Author.Needs.{needs}
 use Rattle.machine_state.proofs.MachineState.set_value.Statement.{statement}
 use Rattle.machine_state.proofs.MachineState.set_value.Tie as tie
 
+-- a register
 returns : tie.Need-returns
 unfolding writeOperand
 returns c =
     let arg = c .before .before .before in
     rw (c .before .set-register-value .ensures, arg .arg .given .1)
 
+-- an immediate, which is no destination
 returns-2 : tie.Need-returns-2
 unfolding writeOperand
 returns-2 c = rw (c .quietly .ensures, c .before .enum-told .given .1)
 
+-- memory, at the effective address
 returns-3 : tie.Need-returns-3
 returns-3 c =
     let store = c .before .before .before .before in
@@ -32,6 +35,7 @@ returns-3 c =
     )
     (store .store .ensures)
 
+-- an address that is refused
 returns-4 : tie.Need-returns-4
 returns-4 c =
     let address2 = c .before .before in

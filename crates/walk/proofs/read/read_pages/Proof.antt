@@ -1,5 +1,5 @@
 -- `read_pages` gives `readAt`: after each turn the first `done` bytes of out are those from p on (Turns.read-step).
-use Rattle.runs.specs.Runs.{filled}
+use Rattle.byte_runs.specs.Runs.{filled}
 use Rattle.store.proofs.Parts.{part-of, reached-first, reached-next}
 use Rattle.walk.proofs.Turns.{read-step, read-end}
 use Rattle.store.specs.Store.{bytesFrom, storeOf}
@@ -38,9 +38,10 @@ read-part-requires c κs =
 
 add-page : tie.Need-add-page Inv-loop μ-loop
 add-page c =
-    let loop-test = c .before .before .before .before .before in
+    let part-length = c .before .before .before .before in
+    let loop-test = part-length .before in
     let loop = loop-test .before in
-    omega (arith, loop .loop .inv .0 .place (rw (loop .loop .inv .1) at (loop-test .loop-test .taken)))
+    omega (arith, loop .loop .inv .0 .address (rw (loop .loop .inv .1) at (loop-test .loop-test .taken)))
 
 add-done : tie.Need-add-done Inv-loop μ-loop
 add-done c =
@@ -62,6 +63,7 @@ loop-less c =
     (omega (arith, loop-test .loop-test .taken)) in
     omega (arith, part .within, part .some)
 
+-- one part more
 loop-again : tie.Need-loop-again Inv-loop μ-loop
 loop-again c =
     let read-part = c .before .before in
@@ -74,7 +76,7 @@ loop-again c =
     (omega (arith, lt)) in (
       reached-next _ _ _ _ _ _ (loop .loop .inv .0) lt part,
       read-part .read-part .kept .1 .1 .0 ∙ loop .loop .inv .1,
-      read-step _ _ _ _ _ _ _ _ _ (loop .loop .inv .0 .place lt) (loop .loop .inv .2) (read-part .read-part .ensures),
+      read-step _ _ _ _ _ _ _ _ _ (loop .loop .inv .0 .address lt) (loop .loop .inv .2) (read-part .read-part .ensures),
     )
 
 same-length : tie.Need-same-length Inv-loop μ-loop

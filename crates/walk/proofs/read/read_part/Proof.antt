@@ -1,5 +1,5 @@
 -- `read_part` gives the bytes of memory: those of the slot found, or zeros.
-use Rattle.runs.proofs.Puts.{put-was, put-copied, room-yes}
+use Rattle.byte_runs.proofs.Puts.{put-was, put-copied, room-yes}
 use Rattle.store.proofs.Read.{slot-held, part-copied, part-cleared}
 use native.Mathlib.Omega.{arith}
 use mathlib.Core.Path.{sym, _∙_}
@@ -7,6 +7,7 @@ use borrow.Author.Needs.{needs}
 use Rattle.walk.proofs.read.read_part.Statement.{statement}
 use Rattle.walk.proofs.read.read_part.Tie as tie
 
+-- a slot that is found lies within the bytes
 mul-copy : tie.Need-mul-copy
 mul-copy c =
     let found = c .before .before in
@@ -21,6 +22,7 @@ add-copy c =
     let start = find-page .before .before .before .before in
     omega (arith, slot-held _ (start .pre .0) _ _ (sym (find-page .find-page .ensures) ∙ found .found .given .1))
 
+-- the bytes of the slot found
 returns : tie.Need-returns
 returns c =
     let copy = c .before .before in
@@ -36,6 +38,7 @@ returns c =
     ))
     (start .pre .2))
 
+-- zeros
 returns-2 : tie.Need-returns-2
 returns-2 c =
     let fill = c .before .before in

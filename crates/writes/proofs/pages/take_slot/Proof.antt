@@ -1,8 +1,8 @@
--- `take_slot` gives `taken`: one store into the directory, and a page of zeros.
+-- `take_slot` gives `slotTaken`: one store into the directory, and a page of zeros.
 use native.Mathlib.Numerals.{add-one}
 use native.Mathlib.Omega.{arith}
 use borrow.Author.Needs.{needs}
-use Rattle.runs.proofs.Puts.{put-was, room-yes}
+use Rattle.byte_runs.proofs.Puts.{put-was, room-yes}
 use Rattle.writes.proofs.pages.take_slot.Statement.{statement}
 use Rattle.writes.proofs.pages.take_slot.Tie as tie
 

@@ -21,6 +21,12 @@ Inv-loop p «data» dir₀ bytes₀ used page₀ off₀ done₀ count₀ dir byt
 abbrev μ-loop : tie.MeasureT-loop
 μ-loop p «data» dir₀ bytes₀ used page₀ off₀ done₀ count₀ dir bytes page off done count = length «data» - done
 
+-- from the end of a turn, over what its call gave back of directory and bytes, to the length of its part
+abbrev measured : tie.After-slice-known4 Inv-loop μ-loop → tie.After-part-length Inv-loop μ-loop
+measured c =
+    let write-part = c .before .before .before .before in
+    write-part .before .before .before
+
 loop-holds : tie.Need-loop-holds Inv-loop μ-loop
 unfolding written
 loop-holds c = (reached-first _ _, refl, refl, refl)
@@ -28,6 +34,7 @@ loop-holds c = (reached-first _ _, refl, refl, refl)
 sub-part-length : tie.Need-sub-part-length Inv-loop μ-loop
 sub-part-length c = omega (arith, c .loop-test .taken)
 
+-- there is room for the part
 write-part-requires : tie.Need-write-part-requires Inv-loop μ-loop
 write-part-requires c κs =
     let part-length = c .before .before in
@@ -42,13 +49,13 @@ write-part-requires c κs =
 
 add-page : tie.Need-add-page Inv-loop μ-loop
 add-page c =
-    let loop-test = c .before .before .before .before .before .before .before .before in
+    let loop-test = measured c .before in
     let loop = loop-test .before in
-    omega (arith, loop .loop .inv .0 .place (loop-test .loop-test .taken))
+    omega (arith, loop .loop .inv .0 .address (loop-test .loop-test .taken))
 
 add-done : tie.Need-add-done Inv-loop μ-loop
 add-done c =
-    let part-length = c .before .before .before .before .before .before .before in
+    let part-length = measured c in
     let loop-test = part-length .before in
     let loop = loop-test .before in
     let part =
@@ -58,7 +65,7 @@ add-done c =
 
 loop-less : tie.Need-loop-less Inv-loop μ-loop
 loop-less c =
-    let part-length = c .before .before .before .before .before .before .before in
+    let part-length = measured c in
     let loop-test = part-length .before in
     let loop = loop-test .before in
     let part =
@@ -66,6 +73,7 @@ loop-less c =
     (omega (arith, loop-test .loop-test .taken)) in
     omega (arith, part .within, part .some)
 
+-- one part more
 loop-again : tie.Need-loop-again Inv-loop μ-loop
 loop-again c =
     let write-part = c .before .before .before .before in
@@ -80,7 +88,7 @@ loop-again c =
       write-part .write-part .kept .1 .1 .1 .1 .1 .0 ∙ loop .loop .inv .1,
       write-part .write-part .kept .1 .1 .1 .1 .1 .1 .0 ∙ loop .loop .inv .2,
       write-step _ _ _ _ (start .args .«data» .now) _ _ _ (part-length .part-length .result)
-          (loop .loop .inv .0 .place (loop-test .loop-test .taken)) (loop .loop .inv .3)
+          (loop .loop .inv .0 .address (loop-test .loop-test .taken)) (loop .loop .inv .3)
           (write-part .write-part .ensures),
     )
 

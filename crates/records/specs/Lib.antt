@@ -1,5 +1,0 @@
-pub mod Words
-pub mod Events
-pub mod Built
-pub mod Decoded
-pub mod Answers
