@@ -2,6 +2,7 @@
 // ends (docs/FORMAT.md). The machine goes from record to record by value; the store lies in arrays of main's, lent downwards. Everything
 // but reading and writing is in `wire_records` and `wire_session`, below, but for the few records of services.rt. tools/compare feeds
 // this program the calls that the Rust was given, and compares the answers (RULES 7.7).
+#![tactic(auto)]
 use libc::{STDERR_FILENO, STDIN_FILENO, STDOUT_FILENO};
 use machine_state::MachineState;
 use wire_records::{CallKind, Header, Kind, ShowKind};

@@ -2,6 +2,7 @@
 // stands here too. Below is utils; above, machine_state gives registers and operands their values, and text prints them.
 // It carries RULES 2.2 to 2.4 (the table of registers), 2.6, 2.8, 1.6 and, of section 5, 5.1 and 5.5 to 5.8 with refusals 8 to 11. What
 // may be absent is an enum of its own (RULES 9.7).
+#![tactic(auto)]
 ghost use Rattle.std.specs.Prelude.{◌≡◌, ◌*◌};
 ghost use Rattle.instruction_set.specs.Registers.{parent_of, part_of, first_lane, lanes_read, lanes_rewritten};
 ghost use Rattle.instruction_set.specs.Sizes.{bytes_of, size_of_part, register_size};

@@ -3,6 +3,7 @@
 // the same machine and store in either order, wherever in a list they stand. Below is `effects`, which has what each call reads and
 // rewrites, and whether it reaches memory. Above are promises, which states the theorem, and the programs that ask.
 // It carries RULES 8.6 (No. 7).
+#![tactic(auto)]
 ghost use Rattle.std.specs.Prelude.{◌≡◌, ◌+◌, ◌≤◌, max, min};
 ghost use Rattle.effects.specs.Rows.{in_span, in_spans, Inside};
 ghost use Rattle.neighbours.specs.Dependent.{common, dependent};

@@ -3,6 +3,7 @@
 // name and sum are printed; with a row's number and a count of turns that row is run, its name and sum go to standard output, and the
 // microseconds of processor time that it took to standard error. oracle/src/pace.rs does the same over the Rust, and tools/pace runs
 // both. The crate stands on the machine, its texts and the report; it carries no rule, and docs/SPEED.md has what it measures.
+#![tactic(auto)]
 use libc::{STDERR_FILENO, STDOUT_FILENO};
 
 mod memory; // memory.rt

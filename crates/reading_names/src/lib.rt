@@ -2,6 +2,7 @@
 // says whether it is a whole name. Below are instruction_set and `wire_numbers`, which gives a register by its number, and text_names,
 // whose names these are; above is reading_operands.
 // It carries the names of RULES 6.10 to 6.12, as 6.3 prints them.
+#![tactic(auto)]
 ghost use Rattle.std.specs.Prelude.{[], ◌∷◌, ◌≡◌, ◌+◌, ◌≤◌, ◌<◌, length};
 ghost use Rattle.reading_names.specs.Nodes.{spelt, index_in, next_node, register_names, register_of, child_by};
 

@@ -5,6 +5,7 @@
 // Below are reading_numbers and reading_names, which read digits and letters, and the printing definitions of text_operands; above are
 // promises and the programs.
 // It carries RULES 6.10 to 6.12 with refusal 13.
+#![tactic(auto)]
 ghost use Rattle.std.specs.Prelude.{◌≡◌};
 ghost use Rattle.reading_names.specs.Nodes.{register_of};
 ghost use Rattle.reading_operands.specs.Reads.{Reads, operands_outcome};

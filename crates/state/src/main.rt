@@ -1,6 +1,7 @@
 // The state program (RULES 10.15): no input; RAX -1, AH 0x1234, R8D -1, a push of 8 bytes; then the state's 17 lines, with no newline at
 // the end. It stands on text and machine_state and does nothing itself; `rt` compares what it writes with the file stdout beside this
 // folder.
+#![tactic(auto)]
 use instruction_set::Register;
 use libc::{STDERR_FILENO, STDOUT_FILENO};
 use machine_state::MachineState;

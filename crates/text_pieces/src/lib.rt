@@ -3,6 +3,8 @@
 // (proofs/Writing.antt). It stands on no crate; above it are text_names, text_operands and text_state, which put texts together, and
 // reading_numbers, which reads numbers back.
 // It carries RULES 6.2, hexadecimal with the digit count from the highest set bit, and the decimal scale of 6.5.
+#![tactic(auto)]
+
 ghost use Rattle.std.specs.Prelude.{◌≡◌, [], ◌∷◌, ◌≤◌, ◌<◌, length, replicate};
 ghost use Rattle.text_pieces.specs.Ascii.{decimal_text};
 ghost use Rattle.text_pieces.specs.Hex.{hex_byte, hex_digits, digits_of, hex_text};

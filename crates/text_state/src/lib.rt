@@ -1,6 +1,7 @@
 // The writers of the state's text and of the lines of events. Below are machine_state, whose state and events are shown, text_names
 // and `text_pieces`; above is text, which measures, refuses and writes.
 // It carries RULES 6.7 and 6.8.
+#![tactic(auto)]
 ghost use Rattle.std.specs.Prelude.{◌++◌, ◌≡◌, ◌+◌, ◌-◌, ◌^◌, ◌≤◌, ◌<◌, get_or};
 ghost use Rattle.instruction_set.specs.declared.Register.TheVariants.{RAX};
 ghost use Rattle.text_state.specs.Lines.{padded, line_of, lines_after, others, control_text, utf8, event_text};

@@ -3,6 +3,8 @@
 // and bytes are, and proofs/ has their laws, each once over first bit and width. It stands on no crate, and nearly every other one stands
 // on it.
 // It carries RULES 1.1 to 1.5, and what the outcome of an answer is, 9.3.
+#![tactic(auto)]
+
 ghost use Rattle.std.specs.Prelude.{◌≡◌, ◌*◌, ◌%◌, ◌^◌, ◌<◌, unsigned_abs};
 ghost use Rattle.std.specs.Int.{w64};
 ghost use Rattle.std.proofs.Common.{of_z, to_z};

@@ -2,6 +2,7 @@
 // of 8 words. What is no record is malformed. Below are calls, which the records ask for, and `wire_numbers`; above are `wire_session`, which
 // carries a record out, and drive, a program that reads records and writes answers. So the machine can be compared with the Rust, call by
 // call (RULES 7.7). No rule rests on this crate: the format is docs/FORMAT.md's.
+#![tactic(auto)]
 ghost use Rattle.std.specs.Prelude.{◌≡◌, ◌+◌, ◌≤◌, length};
 ghost use Rattle.wire_records.specs.Words.{operand_words_at, header_at, header_in};
 ghost use Rattle.wire_records.specs.Answers.{encoded};

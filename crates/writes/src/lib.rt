@@ -3,6 +3,7 @@
 // what is lent and translates the address first. Its one public function takes every input, and writes all or nothing. specs/Writes.antt
 // says what it leaves.
 // It carries RULES 3.9 and 3.10, the test of refusal 6, and how many slots lack, 7.5.
+#![tactic(auto)]
 ghost use Rattle.store.specs.Store.{store_of};
 ghost use Rattle.store.specs.Facts.{IsStore};
 ghost use Rattle.writes.specs.Writes.{Stored};
