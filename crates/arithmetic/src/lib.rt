@@ -11,7 +11,7 @@ ghost use Rattle.arithmetic.specs.Sums.{added, subtracted, carry_taken, is_diffe
 use instruction_set::{ArgumentSize, Flags};
 
 // The five operations (RULES 2.12), in the order of their numbers in docs/FORMAT.md, 0 to 4.
-#[derive(Drop)]
+#[derive(Clone, Copy)]
 pub enum Operation {
     Add,
     AddWithCarry,
@@ -21,7 +21,7 @@ pub enum Operation {
 }
 
 // A sum or a difference at a size, with its Carry and Overflow (RULES 2.13).
-#[derive(Drop)]
+#[derive(Clone, Copy)]
 pub struct Sum {
     pub value: u64,
     pub carry: bool,
@@ -29,7 +29,7 @@ pub struct Sum {
 }
 
 // rflags after an operation, and its result, sign-extended from the size (RULES 2.14).
-#[derive(Drop)]
+#[derive(Clone, Copy)]
 pub struct Computed {
     pub rflags: u64,
     pub value: u64,

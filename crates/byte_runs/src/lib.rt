@@ -4,6 +4,7 @@
 // words. specs/Runs.antt says what a run leaves (`filled`), and proofs/Filled.antt has its laws.
 // It carries RULES 1.3, of words among bytes, and serves 3.9, a slot that is cleared, and 4.1, bytes that are read or written.
 #![tactic(auto)]
+
 ghost use Rattle.std.specs.Prelude.{◌≡◌, ◌&&◌, ℕ, ◌+◌, ◌*◌, ◌≤◌, length};
 ghost use Rattle.byte_runs.specs.Runs.{room, word_from, word_in, lane_in, copied_from, FilledIf};
 

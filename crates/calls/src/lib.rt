@@ -17,7 +17,7 @@ use instruction_set::{ArgumentSize, Flags, InstructionArgument};
 use machine_state::{Address, Answer, Answered, Event, MachineState};
 
 // A tabled call with its arguments (RULES 8.2).
-#[derive(Drop)]
+#[derive(Clone, Copy)]
 pub enum Call {
     ReadOperand {
         argument: InstructionArgument,

@@ -12,7 +12,7 @@ mod services; // services.rt: the records that leave the machine and the store
 
 // Where the program stands: the machine, how much of the arrays is the store, the slots in use, whether to go on, and how many records
 // were answered.
-#[derive(Drop)]
+#[derive(Clone, Copy)]
 struct Run {
     machine: MachineState,
     slots: usize,

@@ -18,14 +18,14 @@ use instruction_set::{Flags, InstructionArgument, Register, SomeRegister};
 const FIRST_FLAG: usize = 176;
 
 // So many places from one on (RULES 8.1).
-#[derive(Drop)]
+#[derive(Clone, Copy)]
 pub struct Span {
     pub start: usize,
     pub count: usize,
 }
 
 // What a call reads, or rewrites: at most four spans; a span of no places stands for none.
-#[derive(Drop)]
+#[derive(Clone, Copy)]
 pub struct Spans {
     pub one: Span,
     pub two: Span,

@@ -12,13 +12,13 @@ use calls::Call;
 use effects::{Span, Spans};
 
 // A call of a reported list.
-#[derive(Drop)]
+#[derive(Clone, Copy)]
 pub struct CallEntry {
     pub call: Call,
 }
 
 // Whether a report is given, or refused with 12 (RULES 8.5).
-#[derive(Drop)]
+#[derive(Clone, Copy)]
 pub enum Verdict {
     Listed,
     TooManyCalls,
@@ -37,7 +37,7 @@ impl Verdict {
 }
 
 // Of each of the 182 places, in their order, whether it is exposed; all no where the list is refused (RULES 8.5).
-#[derive(Drop)]
+#[derive(Clone, Copy)]
 pub struct Report {
     pub verdict: Verdict,
     pub places: [bool; 182],

@@ -43,7 +43,7 @@ pub extern "C" fn ruonasvel_set_flag(m: &mut MachineState, flag: u64, value: u64
 }
 
 // What a call by number leaves, and whether its number names a flag.
-#[derive(Drop)]
+#[derive(Clone, Copy)]
 struct Tried {
     machine: MachineState,
     known: bool,
@@ -69,7 +69,7 @@ fn set_numbered(machine: MachineState, flag: u64, value: u64) -> Tried
 
 // What an operation by number answers: `known` is 0 where a number names nothing, `answers` where there is no value.
 #[repr(C)]
-#[derive(Drop)]
+#[derive(Clone, Copy)]
 pub struct ArithmeticAnswer {
     pub known: u64,
     pub answers: u64,
@@ -150,7 +150,7 @@ pub extern "C" fn ruonasvel_compute_sized_flags(
 // What a write answers: the refusal's number, or 0; how many slots lack where that is 6 (RULES 7.5); the slots in use afterwards; whether
 // the screen shows a byte (1), and which.
 #[repr(C)]
-#[derive(Drop)]
+#[derive(Clone, Copy)]
 pub struct WriteAnswer {
     pub refusal: u64,
     pub lacking: u64,

@@ -3,6 +3,7 @@
 // It carries RULES 2.2 to 2.4 (the table of registers), 2.6, 2.8, 1.6 and, of section 5, 5.1 and 5.5 to 5.8 with refusals 8 to 11. What
 // may be absent is an enum of its own (RULES 9.7).
 #![tactic(auto)]
+
 ghost use Rattle.std.specs.Prelude.{◌≡◌, ◌*◌};
 ghost use Rattle.instruction_set.specs.Registers.{parent_of, part_of, first_lane, lanes_read, lanes_rewritten};
 ghost use Rattle.instruction_set.specs.Sizes.{bytes_of, size_of_part, register_size};
@@ -12,7 +13,7 @@ ghost use Rattle.instruction_set.specs.Arguments.{size_outcome, register_size_or
 ghost use Rattle.instruction_set.specs.Builder.{new_builder, with_first, with_second, with_opcode, with_size, with_repeat, built};
 
 // The 80 names, in the Rust's order (RULES 2.4).
-#[derive(Drop)]
+#[derive(Clone, Copy)]
 pub enum Register {
     // 64 bits
     RAX,
@@ -102,7 +103,7 @@ pub enum Register {
 }
 
 // Which part of its parent, the 64-bit register that holds it, a register is (RULES 2.4); a segment is no part of any.
-#[derive(Drop)]
+#[derive(Clone, Copy)]
 pub enum Part {
     Whole,
     Low32,
@@ -113,7 +114,7 @@ pub enum Part {
 }
 
 // The six flags, in the order of their numbers, 0 to 5 (RULES 2.8).
-#[derive(Drop)]
+#[derive(Clone, Copy)]
 pub enum Flags {
     Carry,
     Parity,
@@ -124,7 +125,7 @@ pub enum Flags {
 }
 
 // The four sizes (RULES 1.6), in the order of their numbers in docs/FORMAT.md, 0 to 3.
-#[derive(Drop)]
+#[derive(Clone, Copy)]
 pub enum ArgumentSize {
     Bit64,
     Bit32,
@@ -133,21 +134,21 @@ pub enum ArgumentSize {
 }
 
 // A base or an index that an address has or does not have.
-#[derive(Drop)]
+#[derive(Clone, Copy)]
 pub enum SomeRegister {
     Absent,
     Present(Register),
 }
 
 // A scale, any byte, that an address has or does not have (RULES 3.3).
-#[derive(Drop)]
+#[derive(Clone, Copy)]
 pub enum SomeScale {
     Absent,
     Present(u8),
 }
 
 // An operand: a value, a register, or the parts of an address (RULES 5.1).
-#[derive(Drop)]
+#[derive(Clone, Copy)]
 pub enum InstructionArgument {
     Immediate {
         immediate: u64,
@@ -164,35 +165,35 @@ pub enum InstructionArgument {
 }
 
 // An operand that an arguments record has or does not have.
-#[derive(Drop)]
+#[derive(Clone, Copy)]
 pub enum SomeArgument {
     Absent,
     Present(InstructionArgument),
 }
 
 // An opcode that an arguments record has or does not have.
-#[derive(Drop)]
+#[derive(Clone, Copy)]
 pub enum SomeOpcode {
     Absent,
     Present(u8),
 }
 
 // An explicit size that an arguments record has or does not have.
-#[derive(Drop)]
+#[derive(Clone, Copy)]
 pub enum SomeSize {
     Absent,
     Present(ArgumentSize),
 }
 
 // A flag, or none.
-#[derive(Drop)]
+#[derive(Clone, Copy)]
 pub enum SomeFlag {
     Absent,
     Present(Flags),
 }
 
 // The arguments record (RULES 5.5).
-#[derive(Drop)]
+#[derive(Clone, Copy)]
 pub struct InstructionArguments {
     pub first_argument: SomeArgument,
     pub second_argument: SomeArgument,
@@ -203,7 +204,7 @@ pub struct InstructionArguments {
 }
 
 // What the calls on an arguments record refuse: 8, 9, 10 and 11 (RULES 7.1).
-#[derive(Drop)]
+#[derive(Clone, Copy)]
 pub enum Refusal {
     NoSize,
     NoFirst,
@@ -226,21 +227,21 @@ impl Refusal {
 }
 
 // The answer of one-argument access (RULES 5.7).
-#[derive(Drop)]
+#[derive(Clone, Copy)]
 pub enum OneArgument {
     Argument(InstructionArgument),
     Refused(Refusal),
 }
 
 // The answer of two-argument access (RULES 5.8).
-#[derive(Drop)]
+#[derive(Clone, Copy)]
 pub enum TwoArguments {
     Arguments(InstructionArgument, InstructionArgument),
     Refused(Refusal),
 }
 
 // The answer of size selection (RULES 5.6).
-#[derive(Drop)]
+#[derive(Clone, Copy)]
 pub enum Size {
     Selected(ArgumentSize),
     Refused(Refusal),
@@ -616,7 +617,7 @@ impl InstructionArguments {
 }
 
 // What is given of an arguments record so far (RULES 5.5). A part that is given twice keeps the last.
-#[derive(Drop)]
+#[derive(Clone, Copy)]
 pub struct InstructionArgumentsBuilder {
     pub first_argument: SomeArgument,
     pub second_argument: SomeArgument,

@@ -23,7 +23,7 @@ const CR0: usize = 17;
 
 // A machine (RULES 2.1): the 22 parents by their numbers (RULES 2.2), rflags, gdt and idt, laid out as C does, for a host.
 #[repr(C)]
-#[derive(Drop)]
+#[derive(Clone, Copy)]
 pub struct MachineState {
     pub regs: [u64; 22],
     pub rflags: u64,
@@ -32,7 +32,7 @@ pub struct MachineState {
 }
 
 // What the Rust prints as it goes: a control register written (RULES 2.7), or a cell of the screen (RULES 4.5); or nothing.
-#[derive(Drop)]
+#[derive(Clone, Copy)]
 pub enum Event {
     Quiet,
     Control { register: Register, value: u64 },
@@ -40,14 +40,14 @@ pub enum Event {
 }
 
 // The answer of a call that changes the machine and never refuses.
-#[derive(Drop)]
+#[derive(Clone, Copy)]
 pub struct Changed {
     pub machine: MachineState,
     pub event: Event,
 }
 
 // 1, 2 and 3 (RULES 7.1), and those of memory.
-#[derive(Drop)]
+#[derive(Clone, Copy)]
 pub enum Refusal {
     NotAnAddress,
     IntoImmediate,
@@ -82,14 +82,14 @@ impl Refusal {
 }
 
 // The answer of the effective address (RULES 3.1): an address, or refusal 1 or 3.
-#[derive(Drop)]
+#[derive(Clone, Copy)]
 pub enum Address {
     At(u64),
     Refused(Refusal),
 }
 
 // What a call answers: nothing but that it is done, a word, a truth, or a refusal.
-#[derive(Drop)]
+#[derive(Clone, Copy)]
 pub enum Answer {
     Done,
     Value(u64),
@@ -98,14 +98,14 @@ pub enum Answer {
 }
 
 // The answer of an operation on two given values, which never refuses (RULES 2.14).
-#[derive(Drop)]
+#[derive(Clone, Copy)]
 pub struct Operated {
     pub machine: MachineState,
     pub answer: Answer,
 }
 
 // What a call that reaches memory, or may, hands back: the machine, the slots in use, the event and the answer (RULES 4.8).
-#[derive(Drop)]
+#[derive(Clone, Copy)]
 pub struct Answered {
     pub machine: MachineState,
     pub used: usize,

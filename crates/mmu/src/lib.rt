@@ -21,7 +21,7 @@ const LONGEST: usize = store::PAGE_SIZE;
 
 // 4, 5 and 6 (RULES 7.1); 6 says how many slots lack (RULES 7.5). They are no more than the bytes of an access, so 32 bits hold them, and
 // every answer that holds a refusal stays small.
-#[derive(Drop)]
+#[derive(Clone, Copy)]
 pub enum Refusal {
     BadStore,
     TooLong,
@@ -53,21 +53,21 @@ impl Refusal {
 }
 
 // What an access answers: it has no value.
-#[derive(Drop)]
+#[derive(Clone, Copy)]
 pub enum Answer {
     Done,
     Refused(Refusal),
 }
 
 // What a write shows on the screen: the video event (RULES 4.5).
-#[derive(Drop)]
+#[derive(Clone, Copy)]
 pub enum Shown {
     Nothing,
     Byte(u8),
 }
 
 // What a write leaves beside the slices: its answer, the slots in use afterwards, and what the screen shows.
-#[derive(Drop)]
+#[derive(Clone, Copy)]
 pub struct Written {
     pub answer: Answer,
     pub used: usize,

@@ -11,7 +11,7 @@ ghost use Rattle.reading_numbers.specs.Numerals.{positive_bits, negative_bits, s
 
 // The numbers that stand in operand text, each with its radix and its bounds: an immediate, a displacement at or above 0, the distance of
 // one below 0, and a scale, which is in decimal.
-#[derive(Drop)]
+#[derive(Clone, Copy)]
 pub enum Numeral {
     Immediate,
     Above,
@@ -20,7 +20,7 @@ pub enum Numeral {
 }
 
 // A number, where a byte can begin it or go on with it.
-#[derive(Drop)]
+#[derive(Clone, Copy)]
 pub enum SomeNumber {
     Absent,
     Present(u64),

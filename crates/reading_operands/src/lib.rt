@@ -19,7 +19,7 @@ use instruction_set::{InstructionArgument, Register, SomeArgument, SomeRegister,
 use reading_numbers::{Numeral, SomeNumber};
 
 // What is read (RULES 6.11), or refusal 13 with the offset at which no operand text goes on (RULES 6.12).
-#[derive(Drop)]
+#[derive(Clone, Copy)]
 pub enum Read {
     Operands(InstructionArgument, SomeArgument),
     NotOperandText(usize),
@@ -38,7 +38,7 @@ impl Read {
 }
 
 // What stands before a `0x` that is not whole yet.
-#[derive(Drop)]
+#[derive(Clone, Copy)]
 enum Lead {
     Nothing,
     Zero,
@@ -50,7 +50,7 @@ enum Lead {
 
 // Where a number stands, with what was read of its operand before it: an immediate, a displacement at or above 0 or below it, or a scale
 // after the displacement, the base and the index. A displacement is held as its 32 bits.
-#[derive(Drop)]
+#[derive(Clone, Copy)]
 enum Numbered {
     Immediate,
     Above,
@@ -59,7 +59,7 @@ enum Numbered {
 }
 
 // Where a register's name stands, with what was read before it: an operand, a base after the displacement, an index after both.
-#[derive(Drop)]
+#[derive(Clone, Copy)]
 enum Named {
     Operand,
     Base(u32),
@@ -67,7 +67,7 @@ enum Named {
 }
 
 // How far an operand is read. A name is held by its node in reading_names; at node 0 no letter is read yet.
-#[derive(Drop)]
+#[derive(Clone, Copy)]
 enum Phase {
     Lead(Lead),
     FirstDigit(Numbered),
@@ -79,7 +79,7 @@ enum Phase {
 }
 
 // Where one byte more leads within an operand.
-#[derive(Drop)]
+#[derive(Clone, Copy)]
 enum Step {
     To(Phase),
     Nowhere,

@@ -16,7 +16,7 @@ pub const PAGE_SIZE: usize = 4096;
 pub const PAGE_STEP: u64 = PAGE_SIZE as u64;
 
 // Where a search ended: in the slot of a page, or nowhere, where the page is absent (RULES 3.7).
-#[derive(Drop)]
+#[derive(Clone, Copy)]
 pub enum Found {
     At(usize),
     Nothing,

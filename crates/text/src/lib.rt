@@ -17,7 +17,7 @@ use instruction_set::{
 use machine_state::{Event, MachineState};
 
 // 3, 7, and of the arguments record 8 and 9 (RULES 7.1).
-#[derive(Drop)]
+#[derive(Clone, Copy)]
 pub enum Refusal {
     NoScale,
     TooLong,
@@ -38,7 +38,7 @@ impl Refusal {
 }
 
 // The text's length, or why there is none (RULES 6.1).
-#[derive(Drop)]
+#[derive(Clone, Copy)]
 pub enum Text {
     Length(usize),
     Refused(Refusal),

@@ -12,7 +12,7 @@ use arithmetic::Operation;
 use instruction_set::{ArgumentSize, Register, SomeRegister, SomeSize};
 
 // The operation that a number names, or none.
-#[derive(Drop)]
+#[derive(Clone, Copy)]
 pub enum SomeOperation {
     Absent,
     Present(Operation),

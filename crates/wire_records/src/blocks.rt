@@ -6,7 +6,7 @@ use super::Header;
 use super::kinds::{CallKind, Kind, ShowKind};
 
 // What block a record has: none, one of any length, a reset's, or two headers.
-#[derive(Drop)]
+#[derive(Clone, Copy)]
 pub(crate) enum Block {
     Nothing,
     Bytes,

@@ -17,63 +17,63 @@ use machine_state::Event;
 use wire_numbers::{SomeOperation, operation_at, register_at, size_at};
 
 // A base or an index of a record, or a word that names none.
-#[derive(Drop)]
+#[derive(Clone, Copy)]
 pub(crate) enum DecodedRegister {
     Malformed,
     Is(SomeRegister),
 }
 
 // A scale of a record, or a word that is none.
-#[derive(Drop)]
+#[derive(Clone, Copy)]
 pub(crate) enum DecodedScale {
     Malformed,
     Is(SomeScale),
 }
 
 // A displacement of a record, or a word that is none.
-#[derive(Drop)]
+#[derive(Clone, Copy)]
 pub(crate) enum DecodedDisplacement {
     Malformed,
     By(i32),
 }
 
 // An explicit size of a record, or a word that names none.
-#[derive(Drop)]
+#[derive(Clone, Copy)]
 pub(crate) enum DecodedSize {
     Malformed,
     Is(SomeSize),
 }
 
 // An opcode of a record, or a word that is none.
-#[derive(Drop)]
+#[derive(Clone, Copy)]
 pub(crate) enum DecodedOpcode {
     Malformed,
     Is(SomeOpcode),
 }
 
 // An operand of a record, or words that make none.
-#[derive(Drop)]
+#[derive(Clone, Copy)]
 pub(crate) enum DecodedOperand {
     Malformed,
     Is(SomeArgument),
 }
 
 // A tabled call, or words that ask for none.
-#[derive(Drop)]
+#[derive(Clone, Copy)]
 pub enum DecodedCall {
     Malformed,
     Is(Call),
 }
 
 // An arguments record, or words that make none.
-#[derive(Drop)]
+#[derive(Clone, Copy)]
 pub enum DecodedArguments {
     Malformed,
     Is(InstructionArguments),
 }
 
 // An event, or words that make none.
-#[derive(Drop)]
+#[derive(Clone, Copy)]
 pub enum DecodedEvent {
     Malformed,
     Is(Event),

@@ -4,7 +4,7 @@ ghost use Rattle.wire_records.specs.declared.kinds.Kind.TheVariants.{Unknown};
 ghost use Rattle.wire_records.specs.Kinds.{kinds, kind_at};
 
 // The tabled calls, carried out by calls::perform.
-#[derive(Drop)]
+#[derive(Clone, Copy)]
 pub enum CallKind {
     ReadOperand,
     WriteOperand,
@@ -21,7 +21,7 @@ pub enum CallKind {
 }
 
 // What is asked of an arguments record.
-#[derive(Drop)]
+#[derive(Clone, Copy)]
 pub enum AccessKind {
     SelectSize,
     OneArgument,
@@ -29,7 +29,7 @@ pub enum AccessKind {
 }
 
 // The page view, the shows, the load and the report: they leave the machine and the count of slots.
-#[derive(Drop)]
+#[derive(Clone, Copy)]
 pub enum ShowKind {
     PageView,
     Load,
@@ -40,7 +40,7 @@ pub enum ShowKind {
 }
 
 // The texts, each written into a lent buffer.
-#[derive(Drop)]
+#[derive(Clone, Copy)]
 pub enum TextKind {
     OperandText,
     ArgumentsText,
@@ -51,7 +51,7 @@ pub enum TextKind {
 }
 
 // What a record asks for; a number that names nothing is unknown.
-#[derive(Drop)]
+#[derive(Clone, Copy)]
 pub enum Kind {
     Unknown,
     Call(CallKind),

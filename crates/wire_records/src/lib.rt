@@ -24,7 +24,7 @@ pub use items::{
 pub use kinds::{AccessKind, CallKind, Kind, ShowKind, TextKind, kind_at};
 
 // The five words of an operand. Registers and scales are given by their number plus 1, and 0 says that they are absent.
-#[derive(Drop)]
+#[derive(Clone, Copy)]
 pub struct OperandWords {
     pub kind: u64,
     pub base: u64,
@@ -34,7 +34,7 @@ pub struct OperandWords {
 }
 
 // The sixteen words of a header, the first of them decoded. What a, b and c are depends on the kind.
-#[derive(Drop)]
+#[derive(Clone, Copy)]
 pub struct Header {
     pub kind: Kind,
     pub length: u64,
@@ -48,7 +48,7 @@ pub struct Header {
 
 // What a record answers. `shape` says what `value` is: 0 nothing, 1 a value, 2 a truth. The first `given` of the lent bytes belong to the
 // answer. Where the record is malformed, `formed` is false and there is no answer.
-#[derive(Drop)]
+#[derive(Clone, Copy)]
 pub struct Reply {
     pub formed: bool,
     pub refusal: u64,

@@ -24,7 +24,7 @@ pub use reset::reset_to;
 pub use show::words;
 
 // What a record leaves, beside the slices.
-#[derive(Drop)]
+#[derive(Clone, Copy)]
 pub struct Carried {
     pub machine: MachineState,
     pub used: usize,
@@ -33,7 +33,7 @@ pub struct Carried {
 }
 
 // What a reset leaves: the machine, and how much of the slices is the store.
-#[derive(Drop)]
+#[derive(Clone, Copy)]
 pub struct Start {
     pub formed: bool,
     pub machine: MachineState,

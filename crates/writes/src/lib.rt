@@ -14,7 +14,7 @@ use pages::write_pages;
 use store::{Found, count_absent, is_store, slot_of};
 
 // Whether the bytes were written, how many slots lack where they were not, and the slots in use afterwards.
-#[derive(Drop)]
+#[derive(Clone, Copy)]
 pub struct Placed {
     pub done: bool,
     pub lacking: usize,
