@@ -4,6 +4,7 @@
 // It carries what a register reads and a write leaves (RULES 2.4, 2.5), values cut to a size (1.6) and values of memory (4.2), and the
 // flags: test and set (2.9), those of a result (2.10) and its sized form (2.11).
 #![tactic(auto)]
+
 ghost use Rattle.std.specs.Prelude.{◌≡◌, ◌+◌, ◌*◌, ◌/◌, ◌%◌, ◌^◌};
 ghost use Rattle.fields.specs.Parts.{read_of, write_of, memory_value, low_bits};
 ghost use Rattle.fields.specs.FlagBits.{flag_of, put_flag, sign_in, even_ones, computed_flags, sized_flags};

@@ -3,6 +3,7 @@
 // which prints what is read here; above is reading_operands.
 // It carries the numbers of RULES 6.10 to 6.12, as 6.2, 6.4 and 6.5 print them.
 #![tactic(auto)]
+
 ghost use Rattle.std.specs.Prelude.{◌≡◌};
 ghost use Rattle.std.specs.Int.{w32};
 ghost use Rattle.std.proofs.Common.{to_z};

@@ -5,6 +5,7 @@
 // writing bytes makes of it; proofs/ has the laws, which name no function of the crates above.
 // It carries RULES 3.4 to 3.10 and the page view, 3.15 and 7.4, with the tests of refusal 4.
 #![tactic(auto)]
+
 ghost use Rattle.std.specs.Prelude.{◌≡◌, ◌+◌, ◌≤◌, ◌<◌, length, take};
 ghost use Rattle.store.specs.Store.{store_of, is_store, seek, found_in, slot_of, slots_needed, touched, absent_of, part_length};
 ghost use Rattle.store.specs.View.{zero_page, view_of};

@@ -2,6 +2,7 @@
 // registers are named, and `text_pieces`; above are text_operands, text_state and reading_names.
 // It carries the names of RULES 6.3, in the texts of 6.5 and 6.7.
 #![tactic(auto)]
+
 ghost use Rattle.std.specs.Prelude.{◌≡◌, ◌<◌, get_or};
 ghost use Rattle.text_names.specs.Names.{name_of, cells, name_at, start_of, SegmentIndex};
 ghost use Rattle.text_pieces.specs.Put.{TextPut};
