@@ -3,6 +3,7 @@
 // which names sizes and flags, and utils, which extends signs.
 // It carries RULES 2.12 to 2.14. No sum here is wider than 64 bits.
 #![tactic(auto)]
+
 ghost use Rattle.std.specs.Prelude.{◌≡◌, ◌*◌, ◌%◌, ◌^◌, not, ◌&&◌, ◌||◌, if◌then◌else◌, nat_lt};
 ghost use Rattle.instruction_set.specs.Sizes.{bytes_of};
 ghost use Rattle.fields.specs.FlagBits.{bool_bit};

@@ -1,5 +1,5 @@
 -- `segment_index` meets its contract: the registers of an arm are those whose cell stands there. Assumes nothing.
-use borrow.Author.Rules.{rules}
+use borrow.Enum.Refused.{opened}
 use Rattle.instruction_set.specs.Registers.{row}
 use Rattle.text_names.specs.Names.{name_of, cells, name_from}
 use Rattle.text_names.proofs.Cells.{placed}
@@ -32,4 +32,4 @@ returns-in-GS c =
 
 pub returns-in_default : goal.returns-in_default
 unfolding row name_of name_from cells
-returns-in_default c = placed 0 c.args.register c.in_default.in_default-own.keys6
+returns-in_default c = placed 0 c.args.register (opened c.in_default.in_default-own.keys6)
