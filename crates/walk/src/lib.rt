@@ -4,6 +4,7 @@
 // store is not read. specs/Walk.antt has the walk as a definition.
 // It carries the walk, RULES 3.11 to 3.13, and reading by physical address, 3.8 and 3.10.
 #![tactic(auto)]
+
 ghost use Rattle.std.specs.Prelude.{◌≡◌};
 ghost use Rattle.store.specs.Store.{store_of, is_store};
 ghost use Rattle.walk.specs.Walk.{translated, read_into};

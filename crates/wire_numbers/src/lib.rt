@@ -4,6 +4,7 @@
 // `wire_session`, host, and reading_names, which finds a register by its number.
 // It serves the reading of names, RULES 6.11; the numbers are docs/FORMAT.md's.
 #![tactic(auto)]
+
 ghost use Rattle.std.specs.Prelude.{◌≡◌, ◌<◌, get_or};
 ghost use Rattle.instruction_set.specs.declared.Register.TheVariants.{RAX};
 ghost use Rattle.wire_numbers.specs.Numbers.{register_number, size_number, registers, register_at, size_at, operation_at};

@@ -1,0 +1,59 @@
+-- `read_pages` gives `read_at`: after each turn the first `done` bytes of out are those from p on (Turns.read_step).
+use Rattle.byte_runs.specs.Runs.{filled}
+use Rattle.store.proofs.Parts.{part_of, reached_first, reached_next}
+use Rattle.walk.proofs.Turns.{read_step, read_end}
+use Rattle.store.specs.Store.{bytes_from, store_of}
+use Rattle.store.specs.Facts.{Reached}
+use Rattle.std.proofs.Common.{◌≡◌, ◌-◌, length, refl, ◌∙◌, arith, rules}
+use Rattle.walk.proofs.read.read_pages.Goals as goal
+
+pub loop-done-init : goal.loop-done-init
+unfolding filled
+loop-done-init c = (reached_first _ _, refl, refl)
+
+pub read_part-requires : goal.read_part-requires
+read_part-requires c =
+    let part =
+    part_of _ _ _ c.part_length-n.ensures c.loop-done.invariant.0.inside (omega (arith, c.loop-done-test.true)) in (
+      c.requires,
+      part.inside,
+      omega (arith, part.within, c.loop-done-test.true),
+    )
+
+pub overflow_add-page : goal.overflow_add-page
+overflow_add-page c =
+    omega (arith, c.loop-done.invariant.0.address (rw c.loop-done.invariant.1 at c.loop-done-test.true))
+
+pub overflow_add-done : goal.overflow_add-done
+overflow_add-done c =
+    let part =
+    part_of _ _ _ c.part_length-n.ensures c.loop-done.invariant.0.inside
+    (omega (arith, c.loop-done-test.true)) in
+    omega (arith, part.within)
+
+pub loop-done-smaller : goal.loop-done-smaller
+loop-done-smaller c =
+    let part =
+    part_of _ _ _ c.part_length-n.ensures c.loop-done.invariant.0.inside
+    (omega (arith, c.loop-done-test.true)) in
+    omega (arith, part.within, part.some)
+
+-- one part more
+pub loop-done-preserved : goal.loop-done-preserved
+loop-done-preserved c =
+    let lt = rw c.loop-done.invariant.1 at c.loop-done-test.true in
+    let part =
+    part_of _ _ _ (rw c.loop-done.invariant.1 at c.part_length-n.ensures) c.loop-done.invariant.0.inside
+    (omega (arith, lt)) in (
+      reached_next _ _ _ _ _ _ c.loop-done.invariant.0 lt part,
+      c.read_part.auto.out ∙ c.loop-done.invariant.1,
+      read_step _ _ _ _ _ _ _ _ _ (c.loop-done.invariant.0.address lt) c.loop-done.invariant.2 c.read_part.ensures,
+    )
+
+pub shape_of-out : goal.shape_of-out
+shape_of-out c = c.loop-done.invariant.1
+
+pub returns : goal.returns
+returns c =
+    let e : c.loop-done.done ≡ length c.args.out.now = omega (arith, c.loop-done.invariant.0.within) in
+    read_end _ _ _ _ _ e c.loop-done.invariant.2

@@ -1,0 +1,16 @@
+-- `read_pages` gives `read_at`: after each turn the first `done` bytes of out are those from p on (Turns.read_step).
+use Rattle.byte_runs.specs.Runs.{filled}
+use Rattle.store.proofs.Parts.{part_of, reached_first, reached_next}
+use Rattle.walk.proofs.Turns.{read_step, read_end}
+use Rattle.store.specs.Store.{bytes_from, store_of}
+use Rattle.store.specs.Facts.{Reached}
+use Rattle.std.proofs.Common.{◌≡◌, ◌-◌, length, refl, ◌∙◌, arith, rules}
+use Rattle.walk.proofs.read.read_pages.Given as goal
+
+abbrev pub invariant-loop-done : goal.invariant-loop-done
+invariant-loop-done l =
+    Reached l.p (length l.initial.out) l.page l.off l.done × (length l.out ≡ length l.initial.out)
+    × (l.out ≡ filled l.initial.out 0 (bytes_from (store_of l.dir l.bytes l.used) l.p) l.done)
+
+abbrev pub decreases-loop-done : goal.decreases-loop-done
+decreases-loop-done l = length l.initial.out - l.done
