@@ -3,6 +3,7 @@
 // above are text, which measures, refuses and writes, and reading_operands, which reads the same texts back.
 // It carries RULES 6.3 to 6.5 and the comma of 6.6; the size that is selected and the order of refusals are text's.
 #![tactic(auto)]
+
 ghost use Rattle.std.specs.Prelude.{◌≡◌};
 ghost use Rattle.text_names.specs.Names.{register_text};
 ghost use Rattle.text_operands.specs.Operands.{displacement_text, base_text, scale_text, address_text, operand_text, list_text};

@@ -4,6 +4,7 @@
 // says what it leaves.
 // It carries RULES 3.9 and 3.10, the test of refusal 6, and how many slots lack, 7.5.
 #![tactic(auto)]
+
 ghost use Rattle.store.specs.Store.{store_of};
 ghost use Rattle.store.specs.Facts.{IsStore};
 ghost use Rattle.writes.specs.Writes.{Stored};

@@ -1,18 +1,11 @@
 -- `page_view` gives `view_of`: a slot found lies within the bytes, so that its part can be lent.
 use Rattle.store.proofs.View.{view_bad, view_odd, view_at, view_none}
-use Rattle.store.specs.Facts.{IsStore}
-use Rattle.store.specs.Store.{Store, is_store}
 use Rattle.store.proofs.Read.{sound_facts, slot_held}
 use borrow.Author.Tests.{not-true, not-false}
 use native.Mathlib.Omega.{arith}
-use mathlib.Core.Path.{◌≡◌, sym, ◌∙◌}
-use mathlib.Core.Bool.{Bool, false, not}
+use mathlib.Core.Path.{sym, ◌∙◌}
 use borrow.Author.Rules.{rules}
 use Rattle.store.proofs.page_view.Goals as goal
-
--- where the search is made the store is one, and what it finds lies within the bytes
-is_sound : (s : Store) (r : Bool) → r ≡ is_store s → not r ≡ false → IsStore s
-is_sound s r e h = sound_facts s (sym e ∙ not-false r h)
 
 -- no store
 pub returns-then-not-is_store : goal.returns-then-not-is_store
@@ -29,21 +22,21 @@ pub overflow_mul-from : goal.overflow_mul-from
 overflow_mul-from c =
     omega (
       arith,
-      slot_held _ (is_sound _ _ c.is_store.ensures c.if-not-is_store.false-raw) _ _ (sym c.find_page-found.ensures ∙ c.in-At.is),
+      slot_held _ (sound_facts _ (sym c.is_store.ensures ∙ not-false _ c.if-not-is_store.false-raw)) _ _ (sym c.find_page-found.ensures ∙ c.in-At.is),
     )
 
 pub overflow_add-to : goal.overflow_add-to
 overflow_add-to c =
     omega (
       arith,
-      slot_held _ (is_sound _ _ c.is_store.ensures c.if-not-is_store.false-raw) _ _ (sym c.find_page-found.ensures ∙ c.in-At.is),
+      slot_held _ (sound_facts _ (sym c.is_store.ensures ∙ not-false _ c.if-not-is_store.false-raw)) _ _ (sym c.find_page-found.ensures ∙ c.in-At.is),
     )
 
 pub slice_bounds-result-end-in-At : goal.slice_bounds-result-end-in-At
 slice_bounds-result-end-in-At c =
     omega (
       arith,
-      slot_held _ (is_sound _ _ c.is_store.ensures c.if-not-is_store.false-raw) _ _ (sym c.find_page-found.ensures ∙ c.in-At.is),
+      slot_held _ (sound_facts _ (sym c.is_store.ensures ∙ not-false _ c.if-not-is_store.false-raw)) _ _ (sym c.find_page-found.ensures ∙ c.in-At.is),
     )
 
 -- the part of the slot found
