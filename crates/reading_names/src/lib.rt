@@ -3,6 +3,7 @@
 // whose names these are; above is reading_operands.
 // It carries the names of RULES 6.10 to 6.12, as 6.3 prints them.
 #![tactic(auto)]
+
 ghost use Rattle.std.specs.Prelude.{[], ◌∷◌, ◌≡◌, ◌+◌, ◌≤◌, ◌<◌, length};
 ghost use Rattle.reading_names.specs.Nodes.{spelt, index_in, next_node, register_names, register_of, child_by};
 
