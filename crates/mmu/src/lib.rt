@@ -5,6 +5,7 @@
 // It carries RULES 3.14, 4.1, 4.5 and 4.6: a call's order of steps and what the screen shows; and refusals 4, 5 and 6 (7.1, 7.2) with
 // what 6 says (7.5).
 #![tactic(auto)]
+
 ghost use Rattle.std.specs.Prelude.{◌≡◌, ◌≤◌, length, get_or};
 ghost use Rattle.store.specs.Store.{page_size, store_of};
 ghost use Rattle.store.specs.Facts.{IsStore};
