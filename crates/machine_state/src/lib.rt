@@ -5,6 +5,7 @@
 // It carries RULES 2.1 and 2.4 to 2.14 on a machine, the effective address, 3.1 to 3.3, and in memory.rt RULES 4.1 to 4.8, 5.2 and 5.3;
 // refusals 1, 2 and 3, and memory's 4 to 6 (7.1, 7.2).
 #![tactic(auto)]
+
 ghost use Rattle.std.specs.Prelude.{◌≡◌, slice_index};
 ghost use Rattle.machine_state.specs.Machine.{new_machine, read_reg, write_reg, event_of, changed};
 ghost use Rattle.machine_state.specs.Flagged.{flag_in, set_flag, compute_flags, compute_sized_flags};

@@ -1,0 +1,41 @@
+-- `machine_state::MachineState::get_value` meets its contract: each kind of operand is a clause of `read_operand`. Assumes nothing.
+use Rattle.machine_state.proofs.Steps.{read_address, address_refused}
+use Rattle.machine_state.specs.Memory.{read_operand}
+use Rattle.std.proofs.Common.{sym, rules}
+use borrow.Enum.Refused.{opened}
+use Rattle.machine_state.proofs.MachineState.get_value.Goals as goal
+
+-- a register
+pub returns-in-Register : goal.returns-in-Register
+unfolding read_operand
+returns-in-Register c =
+    rw (c.quietly.ensures, c.get_register_value.ensures, c.in-Register.is)
+
+-- an immediate
+pub returns-in-Immediate : goal.returns-in-Immediate
+unfolding read_operand
+returns-in-Immediate c =
+    rw (c.quietly-in-Immediate.ensures, c.in-Immediate.is)
+
+-- memory, at the effective address
+pub returns-in-At : goal.returns-in-At
+returns-in-At c =
+    rw (
+      read_address c.args.self _ c.args.argument_size c.args.arg (opened c.in_default.in_default-own.keys2)
+          (opened c.in_default-arg.in_default-arg-own.keys2),
+      ← c.calculate_effective_address-address.ensures,
+      c.in-At.is,
+    )
+    c.load.ensures
+
+-- an address that is refused
+pub returns-in-Refused : goal.returns-in-Refused
+returns-in-Refused c =
+    rw (
+      read_address c.args.self _ c.args.argument_size c.args.arg (opened c.in_default.in_default-own.keys2)
+          (opened c.in_default-arg.in_default-arg-own.keys2),
+      ← c.calculate_effective_address-address.ensures,
+      c.in-Refused.is,
+      c.quietly-in-Refused.ensures,
+    )
+    (sym (address_refused _ _ c.in-Refused.why _))
