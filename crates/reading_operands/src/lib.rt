@@ -6,6 +6,7 @@
 // promises and the programs.
 // It carries RULES 6.10 to 6.12 with refusal 13.
 #![tactic(auto)]
+
 ghost use Rattle.std.specs.Prelude.{◌≡◌};
 ghost use Rattle.reading_names.specs.Nodes.{register_of};
 ghost use Rattle.reading_operands.specs.Reads.{Reads, operands_outcome};

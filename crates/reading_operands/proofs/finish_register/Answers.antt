@@ -1,0 +1,11 @@
+-- `finish_register` meets its contract: by whether the letters are a whole name. Assumes nothing.
+use borrow.Author.Rules.{rules}
+use Rattle.reading_operands.proofs.finish_register.Goals as goal
+
+pub returns-in-Absent : goal.returns-in-Absent
+returns-in-Absent c =
+    rw (← c.register_of-found.ensures, c.in-Absent.is)
+
+pub returns-in-Present : goal.returns-in-Present
+returns-in-Present c =
+    rw (← c.register_of-found.ensures, c.in-Present.is)
