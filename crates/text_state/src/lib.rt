@@ -2,6 +2,7 @@
 // and `text_pieces`; above is text, which measures, refuses and writes.
 // It carries RULES 6.7 and 6.8.
 #![tactic(auto)]
+
 ghost use Rattle.std.specs.Prelude.{◌++◌, ◌≡◌, ◌+◌, ◌-◌, ◌^◌, ◌≤◌, ◌<◌, get_or};
 ghost use Rattle.instruction_set.specs.declared.Register.TheVariants.{RAX};
 ghost use Rattle.text_state.specs.Lines.{padded, line_of, lines_after, others, control_text, utf8, event_text};
