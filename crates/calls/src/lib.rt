@@ -5,6 +5,7 @@
 // It carries the list of calls of RULES 8.2, without what is no tabled call, 8.7; what each does is RULES 2.9 to 2.14, 3.1, 4.1, 4.3, 5.2
 // and 5.3.
 #![tactic(auto)]
+
 ghost use Rattle.std.specs.Prelude.{◌≡◌};
 ghost use Rattle.store.specs.Store.{store_of};
 ghost use Rattle.machine_state.specs.Answers.{result_of};

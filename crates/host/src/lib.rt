@@ -7,6 +7,7 @@
 // this crate to programs in C.
 // It carries RULES 9.8; what the calls do is RULES 2.9, 2.11, 2.12 to 2.14 and 4.1, and the numbers of flags are those of 2.8.
 #![tactic(auto)]
+
 ghost use Rattle.std.specs.Prelude.{◌≡◌, get_or};
 ghost use Rattle.store.specs.Store.{store_of};
 ghost use Rattle.mmu.specs.Calls.{memory_outcome};

@@ -4,6 +4,7 @@
 // first, over an empty buffer, and written second: a refused text leaves every byte.
 // It carries RULES 6.1 and 6.3 to 6.9, and refusals 9, 8, 3 and 7 in their order (7.3).
 #![tactic(auto)]
+
 ghost use Rattle.std.specs.Prelude.{◌≡◌};
 ghost use Rattle.instruction_set.specs.declared.ArgumentSize.TheVariants.{Bit64};
 ghost use Rattle.text.specs.Answers.{text_number, TextWritten, text_is, text_outcome};
