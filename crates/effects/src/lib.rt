@@ -5,6 +5,7 @@
 // promises, which states demand 3.
 // It carries RULES 8.1 to 8.4.
 #![tactic(auto)]
+
 ghost use Rattle.std.specs.Prelude.{◌≡◌};
 ghost use Rattle.effects.specs.Rows.{rsp_places, cr3_places, flag_place, spans, none, read_span, rewrite_span, part_span, flag_span};
 ghost use Rattle.effects.specs.Rows.{address_reads, operand_reads, operand_rewrites, operation_reads, three_flags, five_flags};
