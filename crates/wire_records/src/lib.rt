@@ -3,6 +3,7 @@
 // carries a record out, and drive, a program that reads records and writes answers. So the machine can be compared with the Rust, call by
 // call (RULES 7.7). No rule rests on this crate: the format is docs/FORMAT.md's.
 #![tactic(auto)]
+
 ghost use Rattle.std.specs.Prelude.{◌≡◌, ◌+◌, ◌≤◌, length};
 ghost use Rattle.wire_records.specs.Words.{operand_words_at, header_at, header_in};
 ghost use Rattle.wire_records.specs.Answers.{encoded};
