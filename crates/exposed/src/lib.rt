@@ -4,6 +4,7 @@
 // the theorem speaks of. Above are promises, which states demand 3, `wire_session`, and the programs that ask for a report.
 // It carries the report, RULES 8.5, with refusal 12, of what 8.4 defines.
 #![tactic(auto)]
+
 ghost use Rattle.std.specs.Prelude.{◌≡◌, ◌+◌, ◌≤◌, length};
 ghost use Rattle.effects.specs.Rows.{span, in_span, in_spans, Inside};
 ghost use Rattle.exposed.specs.Reported.{verdict_outcome, report_answer, reported, Marked};
