@@ -4,6 +4,7 @@
 // rewrites, and whether it reaches memory. Above are promises, which states the theorem, and the programs that ask.
 // It carries RULES 8.6 (No. 7).
 #![tactic(auto)]
+
 ghost use Rattle.std.specs.Prelude.{◌≡◌, ◌+◌, ◌≤◌, max, min};
 ghost use Rattle.effects.specs.Rows.{in_span, in_spans, Inside};
 ghost use Rattle.neighbours.specs.Dependent.{common, dependent};
