@@ -20,7 +20,7 @@ use Rattle.instruction_set.specs.declared.Flags.TheVariants.{Carry}
 use Rattle.fields.specs.FlagBits.{bool_bit, bit_set}
 use Rattle.arithmetic.specs.Sums.{added, subtracted, worked_of, computed_of}
 use Rattle.arithmetic.specs.declared.Operation.{Operation}
-use Rattle.arithmetic.specs.declared.Operation.TheVariants.{Add, AddWithCarry, Subtract, SubtractWithBorrow}
+use Rattle.arithmetic.specs.declared.Operation.TheVariants.{Add, AddWithCarry, Subtract, SubtractWithBorrow, Compare}
 use Rattle.arithmetic.specs.declared.Sum.{Sum}
 use Rattle.arithmetic.proofs.Adding.{rest_is}
 use Rattle.arithmetic.proofs.Left.{carry_left}
@@ -172,6 +172,14 @@ says sums Add k x false none = refl
 says differences Subtract k x false none = refl
 says sums AddWithCarry k x c (last e) = rw e
 says differences SubtractWithBorrow k x c (last e) = rw e
+says sums Add k x true h = elim h [ ]
+says sums Subtract k x c h = elim h [ ]
+says sums SubtractWithBorrow k x c h = elim h [ ]
+says sums Compare k x c h = elim h [ ]
+says differences Add k x c h = elim h [ ]
+says differences AddWithCarry k x c h = elim h [ ]
+says differences Subtract k x true h = elim h [ ]
+says differences Compare k x c h = elim h [ ]
 
 hands_on : (d : Chained) (o : Operation) (k : Link) (x : State) (c : Bool) → Takes d o x c
     → flag_in (does (operation o k) x).after.machine Carry ≡ (pair_worked d k c).carry
@@ -184,6 +192,14 @@ hands_on sums AddWithCarry k x c (last e) =
 hands_on differences SubtractWithBorrow k x c (last e) =
     carry_left x.machine.rflags k.size (pair_worked differences k (flag_in x.machine Carry))
     ∙ ap (λ (b : Bool). (pair_worked differences k b).carry) e
+hands_on sums Add k x true h = elim h [ ]
+hands_on sums Subtract k x c h = elim h [ ]
+hands_on sums SubtractWithBorrow k x c h = elim h [ ]
+hands_on sums Compare k x c h = elim h [ ]
+hands_on differences Add k x c h = elim h [ ]
+hands_on differences AddWithCarry k x c h = elim h [ ]
+hands_on differences Subtract k x true h = elim h [ ]
+hands_on differences Compare k x c h = elim h [ ]
 
 -- calls that do not rewrite Carry leave it
 carry_kept : (acts : List Act) (x : State) → WellTyped x.machine → rewritten rewrites acts (flag_place Carry) ≡ false

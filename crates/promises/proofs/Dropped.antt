@@ -79,7 +79,7 @@ apart m t two e = go (dec_lt (t % m + 1) m)
 
     go : Dec (t % m + 1 < m) → ⊥
     go (yes h) = let f : (t % m + 1) % m ≡ t % m + 1 = mod-eq_of_lt h in omega (arith, e, step_on, f)
-    go (no h) =
+    go (Prim.no h) =
         let l : t % m < m = mod-lt t (omega arith) in
         let f : (t % m + 1) % m ≡ 0 = rest_is m 1 0 (t % m + 1) (omega arith) (omega (arith, h)) in
         omega (arith, e, step_on, f, h)

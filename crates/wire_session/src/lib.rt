@@ -3,6 +3,7 @@
 // answers. docs/FORMAT.md says what each record does. No rule rests on this crate: what it carries out is compared with the Rust from
 // outside (RULES 7.7).
 #![tactic(auto)]
+
 ghost use Rattle.std.specs.Prelude.{[], ◌≡◌};
 ghost use Rattle.store.specs.Store.{store_of};
 ghost use Rattle.utils.specs.Outcome.{gives};
