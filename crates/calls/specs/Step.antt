@@ -4,7 +4,7 @@ use Rattle.std.specs.Prelude.{List, [], ◌∷◌, ℕ}
 use Rattle.utils.specs.Outcome.{gives}
 use Rattle.store.specs.Store.{Store}
 use Rattle.machine_state.specs.Address.{address_of}
-use Rattle.machine_state.specs.Answers.{Value, truth, outcome_of, Result}
+use Rattle.machine_state.specs.Answers.{truth, outcome_of, Result}
 use Rattle.machine_state.specs.Flagged.{flag_in, set_flag, compute_flags, compute_sized_flags}
 use Rattle.machine_state.specs.Memory.{leaves, word_outcome, read_memory, write_memory, read_operand, write_operand, pushed, popped}
 use Rattle.machine_state.specs.Operating.{operated}

@@ -4,7 +4,7 @@ use Rattle.std.specs.Prelude.{Bool, true, false, ◌&&◌, ◌||◌, ℕ, ◌+�
 use Rattle.instruction_set.specs.Registers.{parent_of, part_of, first_lane, lanes_read, lanes_rewritten}
 use Rattle.instruction_set.specs.Flags.{flag_number}
 use Rattle.instruction_set.specs.declared.Flags.{Flags}
-use Rattle.instruction_set.specs.declared.Flags.TheVariants.{Carry, Parity, Zero, Sign, Direction, Overflow}
+use Rattle.instruction_set.specs.declared.Flags.TheVariants.{Carry, Parity, Zero, Sign, Overflow}
 use Rattle.instruction_set.specs.declared.InstructionArgument.{InstructionArgument}
 use Rattle.instruction_set.specs.declared.InstructionArgument.TheVariants as arg
 use Rattle.instruction_set.specs.declared.Register.{Register}

@@ -1,6 +1,6 @@
 -- One bit of a word, as the code reads and writes it: shifted down for a read; for a write the old bit goes out and the new one comes in.
 -- From the exchange law of fields. Assumes nothing.
-use mathlib.Core.Path.{◌≡◌, sym, ◌∙◌, ap}
+use mathlib.Core.Path.{◌≡◌, ◌∙◌}
 use Prim.Native.Nat.{ℕ, ◌+◌, ◌-◌, ◌*◌, ◌/◌, ◌%◌, ◌^◌, ◌<◌, ◌≤◌}
 use native.Mathlib.Nat.{mod-le, mod-eq_of_lt, mul-le-mul_right}
 use native.Mathlib.Omega.{arith}

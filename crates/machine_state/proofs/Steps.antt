@@ -21,7 +21,7 @@ use Rattle.mmu.specs.declared.Answer.{Answer as MemoryAnswer}
 use Rattle.mmu.specs.declared.Answer.TheVariants as memory
 use Rattle.mmu.specs.declared.Shown.{Shown}
 use Rattle.machine_state.specs.Address.{address_of}
-use Rattle.machine_state.specs.Answers.{Value, word, Result, result_of, outcome_of, refusal_number, said_by}
+use Rattle.machine_state.specs.Answers.{word, Result, result_of, outcome_of, refusal_number, said_by}
 use Rattle.machine_state.specs.Memory.{leaves, word_outcome, event_shown, read_memory, write_memory, valued, with_value, loaded, stored_at}
 use Rattle.machine_state.specs.Memory.{at_address, read_operand, write_operand, rsp_if_accepted, minus64, cr3}
 use Rattle.machine_state.specs.Private.{answered, finished, from_memory, is_refused, given_value, given_rsp}

@@ -104,7 +104,7 @@ pub shown_of : (t : List ℕ) → OperandText t → ShownBy t
 shown_of t p = go p.second p.second_held p.second_printed p.text
   where
     x : Plain p.size p.first
-    x = plain_is p.size p.first p.first_held_lem p.first_printed
+    x = plain_is p.size p.first p.first_held p.first_printed
 
     go : (y : SomeArgument) → OfSecond Held y → some_lacks_scale y ≡ false → t ≡ list_text p.size p.first y → ShownBy t
     go some.Absent h l e =
@@ -132,7 +132,7 @@ printed_of t x some.Absent s =
       size = Bit64;
       first = x;
       second = some.Absent;
-      first_held_lem = s.first.held;
+      first_held = s.first.held;
       second_held = tt;
       first_printed = s.first.printed;
       second_printed = refl;
@@ -143,7 +143,7 @@ printed_of t x (some.Present y) s =
       size = Bit64;
       first = x;
       second = some.Present y;
-      first_held_lem = s.first.held;
+      first_held = s.first.held;
       second_held = s.second.held;
       first_printed = s.first.printed;
       second_printed = s.second.printed;

@@ -30,7 +30,6 @@ use Rattle.reading_operands.specs.declared.Named.TheVariants as named
 use Rattle.reading_operands.specs.declared.Numbered.TheVariants as numbered
 use Rattle.reading_operands.specs.declared.Phase.{Phase}
 use Rattle.reading_operands.specs.declared.Phase.TheVariants as phase
-use Rattle.reading_operands.specs.declared.Read.{Read}
 use Rattle.reading_operands.specs.declared.Read.TheVariants as read
 use Rattle.reading_operands.specs.declared.Step.{Step}
 use Rattle.reading_operands.specs.declared.Step.TheVariants as step

@@ -61,7 +61,7 @@ pub record OperandText (t : List ℕ) : Type 0 where
   pub size : ArgumentSize
   pub first : InstructionArgument
   pub second : SomeArgument
-  pub first_held_lem : Held first
+  pub first_held : Held first
   pub second_held : OfSecond Held second
   pub first_printed : lacks_scale first ≡ false
   pub second_printed : some_lacks_scale second ≡ false

@@ -4,7 +4,6 @@ use Rattle.std.specs.Prelude.{List, [], ◌++◌, ℕ, suc, ℤ, pos, negsuc}
 use Rattle.instruction_set.specs.declared.ArgumentSize.{ArgumentSize}
 use Rattle.instruction_set.specs.declared.InstructionArgument.{InstructionArgument}
 use Rattle.instruction_set.specs.declared.InstructionArgument.TheVariants as arg
-use Rattle.instruction_set.specs.declared.Register.{Register}
 use Rattle.instruction_set.specs.declared.SomeArgument.{SomeArgument}
 use Rattle.instruction_set.specs.declared.SomeArgument.TheVariants as some
 use Rattle.instruction_set.specs.declared.SomeRegister.{SomeRegister}

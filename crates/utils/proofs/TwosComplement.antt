@@ -1,5 +1,5 @@
 -- Signed numbers in 64 bits: what the code's sums and differences on either side of 0 come to. Assumes nothing.
-use Rattle.std.proofs.Common.{◌≡◌, ℕ, zero, suc, ◌+◌, ◌-◌, ◌^◌, ◌<◌, ◌≤◌, true, false, T, leb, ℤ, pos, negsuc, ◌+ℤ◌, ◌-ℤ◌, nat_abs, refl, ap, ◌∙◌, arith, leb→le, pow_mono, w32, w64, SFits, to_z, of_z, ltb-true, lt-ltb}
+use Rattle.std.proofs.Common.{◌≡◌, ℕ, zero, suc, ◌-◌, ◌^◌, ◌<◌, ◌≤◌, true, false, T, leb, ℤ, pos, negsuc, ◌+ℤ◌, ◌-ℤ◌, nat_abs, refl, ap, ◌∙◌, arith, leb→le, pow_mono, w32, w64, SFits, to_z, of_z, ltb-true, lt-ltb}
 use lib.Signed.{lt_z}
 use mir.Syntax.{Width}
 use mir.Val.{hbits}

@@ -1,6 +1,5 @@
 -- `compute` gives `computed_of`: the carry taken, what is worked out with it, its flags and its extension. Assumes nothing.
 use Rattle.arithmetic.specs.Sums.{computed_of}
-use Rattle.std.proofs.Common.{rules}
 use Rattle.arithmetic.proofs.compute.Goals as goal
 
 pub returns : goal.returns

@@ -1,7 +1,6 @@
 -- `minus` gives `subtracted`: the sum with the complement is the difference (`difference_is`). Assumes nothing.
 use Rattle.arithmetic.proofs.Widths.{bits_some, bits_within}
 use Rattle.arithmetic.proofs.Taking.{complement_is, difference_is}
-use Rattle.std.proofs.Common.{rules}
 use Rattle.arithmetic.proofs.minus.Goals as goal
 
 pub returns : goal.returns

@@ -1,6 +1,5 @@
 -- `plus` gives `added`: its steps are those of the law `plus_is`. Assumes nothing.
 use Rattle.arithmetic.proofs.Adding.{plus_is}
-use Rattle.std.proofs.Common.{rules}
 use Rattle.arithmetic.proofs.plus.Goals as goal
 
 pub returns : goal.returns

@@ -1,6 +1,5 @@
 -- `with_flags` gives `flags_of`: the five flags, one after the other. Assumes nothing.
 use Rattle.arithmetic.specs.Sums.{flags_of}
-use Rattle.std.proofs.Common.{rules}
 use Rattle.arithmetic.proofs.with_flags.Goals as goal
 
 pub returns : goal.returns

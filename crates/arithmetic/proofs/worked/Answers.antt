@@ -1,6 +1,6 @@
 -- `worked` gives `worked_of`: its two ways out are the two of the definition. Assumes nothing.
 use Rattle.arithmetic.specs.Sums.{worked_of}
-use Rattle.std.proofs.Common.{sym, rules}
+use Rattle.std.proofs.Common.{sym}
 use Rattle.arithmetic.proofs.worked.Goals as goal
 
 pub returns-then-is_difference : goal.returns-then-is_difference

@@ -1,13 +1,8 @@
 -- `copy` gives `FilledIf`: one byte more with each turn. Assumes nothing.
-use mathlib.Core.Path.{◌≡◌, refl, ap, ◌∙◌}
-use Prim.Native.Nat.{ℕ, ◌+◌, ◌≤◌, ◌-◌}
-use native.Mathlib.Omega.{arith}
-use borrow.Author.Rules.{rules}
-use lib.ListN.{length, length-set}
-use Rattle.utils.proofs.Bools.{both, first_fails, second_fails}
-use Rattle.byte_runs.proofs.Filled.{filled_more}
+use mathlib.Core.Path.{◌≡◌}
+use Prim.Native.Nat.{◌+◌, ◌≤◌, ◌-◌}
+use lib.ListN.{length}
 use Rattle.byte_runs.specs.Runs.{filled, copied_from}
-use Rattle.byte_runs.proofs.Puts.{room_yes, has, lacks, put_none, put_done}
 use Rattle.byte_runs.proofs.copy.Given as goal
 
 abbrev pub invariant-loop-k : goal.invariant-loop-k

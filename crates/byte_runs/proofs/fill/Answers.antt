@@ -1,8 +1,7 @@
 -- `fill` gives `FilledIf`: one byte more with each turn. Assumes nothing.
 use mathlib.Core.Path.{◌≡◌, refl, ap, ◌∙◌}
-use Prim.Native.Nat.{ℕ, ◌+◌, ◌≤◌, ◌-◌}
+use Prim.Native.Nat.{ℕ}
 use native.Mathlib.Omega.{arith}
-use borrow.Author.Rules.{rules}
 use lib.ListN.{length, length-set}
 use Rattle.byte_runs.specs.Runs.{filled}
 use Rattle.byte_runs.proofs.Filled.{filled_more}

@@ -1,12 +1,8 @@
 -- `fill` gives `FilledIf`: one byte more with each turn. Assumes nothing.
-use mathlib.Core.Path.{◌≡◌, refl, ap, ◌∙◌}
+use mathlib.Core.Path.{◌≡◌}
 use Prim.Native.Nat.{ℕ, ◌+◌, ◌≤◌, ◌-◌}
-use native.Mathlib.Omega.{arith}
-use borrow.Author.Rules.{rules}
-use lib.ListN.{length, length-set}
+use lib.ListN.{length}
 use Rattle.byte_runs.specs.Runs.{filled}
-use Rattle.byte_runs.proofs.Filled.{filled_more}
-use Rattle.byte_runs.proofs.Puts.{room_yes, has, lacks, put_none, put_done}
 use Rattle.byte_runs.proofs.fill.Given as goal
 
 abbrev pub invariant-loop-k : goal.invariant-loop-k

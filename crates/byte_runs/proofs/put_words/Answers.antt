@@ -1,8 +1,7 @@
 -- `put_words` gives `FilledIf`: one word more with each turn (`word_more`). Assumes nothing.
 use mathlib.Core.Path.{◌≡◌, refl, ap, ◌∙◌}
-use Prim.Native.Nat.{ℕ, ◌+◌, ◌*◌, ◌≤◌, ◌-◌}
+use Prim.Native.Nat.{ℕ, ◌+◌, ◌*◌}
 use native.Mathlib.Omega.{arith}
-use borrow.Author.Rules.{rules}
 use lib.ListN.{length}
 use Rattle.utils.proofs.Bytes.{length_to_bytes}
 use Rattle.byte_runs.proofs.Filled.{length_filled}

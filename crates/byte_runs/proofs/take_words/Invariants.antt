@@ -1,14 +1,8 @@
 -- `take_words` gives `FilledIf`: one word more with each turn. Assumes nothing.
-use mathlib.Core.Path.{◌≡◌, refl, ap, ◌∙◌}
+use mathlib.Core.Path.{◌≡◌}
 use Prim.Native.Nat.{ℕ, ◌+◌, ◌*◌, ◌≤◌, ◌-◌}
-use native.Mathlib.Nat.{zero-add}
-use native.Mathlib.Omega.{arith}
-use borrow.Author.Rules.{rules}
-use lib.ListN.{length, length-set}
-use Rattle.utils.proofs.Bools.{both, first_fails, second_fails}
-use Rattle.byte_runs.proofs.Filled.{filled_more}
+use lib.ListN.{length}
 use Rattle.byte_runs.specs.Runs.{filled, word_in}
-use Rattle.byte_runs.proofs.Puts.{room_yes, room_no, has, lacks, put_none, put_done}
 use Rattle.byte_runs.proofs.take_words.Given as goal
 
 abbrev pub invariant-loop-k : goal.invariant-loop-k

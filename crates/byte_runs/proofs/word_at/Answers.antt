@@ -1,6 +1,5 @@
 -- `word_at` gives `word_in`: a whole word, or 0 where there is no room for one. Assumes nothing.
 use mathlib.Core.Path.{sym, ◌∙◌}
-use borrow.Author.Rules.{rules}
 use Rattle.byte_runs.specs.Runs.{word_in}
 use Rattle.byte_runs.proofs.Puts.{room_le}
 use Rattle.byte_runs.proofs.word_at.Goals as goal

@@ -1,6 +1,5 @@
 -- `word_from` gives `word_from`. Assumes nothing.
 use Rattle.byte_runs.specs.Runs.{word_from}
-use borrow.Author.Rules.{rules}
 use Rattle.byte_runs.proofs.word_from.Goals as goal
 
 pub returns : goal.returns

@@ -1,5 +1,4 @@
 -- `calls::address_answer` meets its contract: each arm is the definition's clause. Assumes nothing.
-use borrow.Author.Rules.{rules}
 use Rattle.calls.proofs.address_answer.Goals as goal
 
 pub returns-in-At : goal.returns-in-At

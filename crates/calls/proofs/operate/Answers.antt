@@ -1,5 +1,4 @@
 -- `operate` hands on the machine and the answer of the machine's own `operate`, with the count as it was. Assumes nothing.
-use borrow.Author.Rules.{rules}
 use Rattle.calls.proofs.operate.Goals as goal
 
 pub returns : goal.returns

@@ -2,7 +2,6 @@
 use Rattle.calls.proofs.Addresses.{address_outcome_lem}
 use Rattle.calls.specs.Step.{step, with_lent}
 use mathlib.Core.Path.{ap}
-use borrow.Author.Rules.{rules}
 use Rattle.calls.proofs.perform.Goals as goal
 
 -- read operand

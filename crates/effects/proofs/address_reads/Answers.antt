@@ -1,5 +1,4 @@
 -- `effects::address_reads` meets its contract: each arm is a clause of `address_reads`. Assumes nothing.
-use borrow.Author.Rules.{rules}
 use Rattle.effects.proofs.address_reads.Goals as goal
 
 pub returns-in-EffectiveAddress : goal.returns-in-EffectiveAddress

@@ -1,6 +1,5 @@
 -- `effects::cr3_places` meets its contract: CR3 is read whole. Assumes nothing.
 use Rattle.instruction_set.specs.Registers.{row}
-use borrow.Author.Rules.{rules}
 use Rattle.effects.proofs.cr3_places.Goals as goal
 
 pub returns : goal.returns

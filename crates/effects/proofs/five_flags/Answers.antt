@@ -1,5 +1,4 @@
 -- `five_flags` gives `five_flags`: four places from Carry's on, and Overflow's. Assumes nothing.
-use borrow.Author.Rules.{rules}
 use Rattle.effects.proofs.five_flags.Goals as goal
 
 pub returns : goal.returns

@@ -1,6 +1,5 @@
 -- `effects::flag_place` meets its contract: a flag's place is below 182, so the sum fits a word. Assumes nothing.
 use native.Mathlib.Omega.{arith}
-use borrow.Author.Rules.{rules}
 use Rattle.effects.proofs.Within.{flag_below}
 use Rattle.effects.proofs.flag_place.Goals as goal
 

@@ -1,5 +1,4 @@
 -- `effects::flag_span` meets its contract, by that of `flag_place`. Assumes nothing.
-use borrow.Author.Rules.{rules}
 use Rattle.effects.proofs.flag_span.Goals as goal
 
 pub returns : goal.returns

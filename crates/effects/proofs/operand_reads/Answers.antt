@@ -1,5 +1,4 @@
 -- `effects::operand_reads` meets its contract: each arm is a clause of `operand_reads`. Assumes nothing.
-use borrow.Author.Rules.{rules}
 use Rattle.effects.proofs.operand_reads.Goals as goal
 
 pub returns-in-Register : goal.returns-in-Register

@@ -1,5 +1,4 @@
 -- `effects::operand_rewrites` meets its contract: each arm is a clause of `operand_rewrites`. Assumes nothing.
-use borrow.Author.Rules.{rules}
 use Rattle.effects.proofs.operand_rewrites.Goals as goal
 
 pub returns-in-Register : goal.returns-in-Register

@@ -1,5 +1,4 @@
 -- `operation_reads` gives `operation_reads`: each arm is a clause of the definition. Assumes nothing.
-use borrow.Author.Rules.{rules}
 use Rattle.effects.proofs.operation_reads.Goals as goal
 
 pub returns-in-AddWithCarry : goal.returns-in-AddWithCarry

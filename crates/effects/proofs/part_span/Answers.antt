@@ -1,7 +1,6 @@
 -- `effects::part_span` meets its contract: each arm is a clause of `part_span`. Assumes nothing.
 use Rattle.effects.specs.Rows.{part_span}
 use mathlib.Core.Path.{ap, sym, ◌∙◌}
-use borrow.Author.Rules.{rules}
 use Rattle.effects.proofs.part_span.Goals as goal
 
 pub returns-in-Absent : goal.returns-in-Absent

@@ -1,6 +1,5 @@
 -- `effects::reaches_memory` meets its contract: each arm is a clause of `reaches`. Assumes nothing.
 use Rattle.effects.specs.Rows.{reaches}
-use borrow.Author.Rules.{rules}
 use Rattle.effects.proofs.reaches_memory.Goals as goal
 
 pub returns-in-EffectiveAddress : goal.returns-in-EffectiveAddress

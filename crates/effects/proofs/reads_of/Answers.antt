@@ -1,6 +1,5 @@
 -- `effects::reads_of` meets its contract: each arm is a clause of `reads_of`. Assumes nothing.
 use Rattle.effects.specs.Rows.{reads_of}
-use borrow.Author.Rules.{rules}
 use Rattle.effects.proofs.reads_of.Goals as goal
 
 pub returns-in-ReadOperand : goal.returns-in-ReadOperand

@@ -2,7 +2,6 @@
 use Rattle.instruction_set.specs.Registers.{part_of}
 use Rattle.instruction_set.proofs.Bounds.{parent_below, rewrites_within}
 use native.Mathlib.Omega.{arith}
-use borrow.Author.Rules.{rules}
 use Rattle.effects.proofs.rewrite_span.Goals as goal
 
 pub overflow_mul-result : goal.overflow_mul-result

@@ -1,6 +1,5 @@
 -- `effects::rewrites_of` meets its contract: each arm is a clause of `rewrites_of`. Assumes nothing.
 use Rattle.effects.specs.Rows.{rewrites_of}
-use borrow.Author.Rules.{rules}
 use Rattle.effects.proofs.rewrites_of.Goals as goal
 
 pub returns-in-ReadOperand : goal.returns-in-ReadOperand

@@ -1,6 +1,5 @@
 -- `effects::rsp_places` meets its contract: RSP is read whole. Assumes nothing.
 use Rattle.instruction_set.specs.Registers.{row}
-use borrow.Author.Rules.{rules}
 use Rattle.effects.proofs.rsp_places.Goals as goal
 
 pub returns : goal.returns

@@ -1,5 +1,4 @@
 -- `effects::three_flags` gives `three_flags`: each span is a flag's. Assumes nothing.
-use borrow.Author.Rules.{rules}
 use Rattle.effects.proofs.three_flags.Goals as goal
 
 pub returns : goal.returns

@@ -1,5 +1,4 @@
 -- `exposed::mark` meets its contract: in each arm the count that is given is the span's. Assumes nothing.
-use borrow.Author.Rules.{rules}
 use Rattle.exposed.proofs.mark.Goals as goal
 
 pub returns-in-1 : goal.returns-in-1

@@ -3,9 +3,8 @@ use Rattle.exposed.proofs.Marking.{mark_none, mark_more}
 use native.Mathlib.Omega.{arith}
 use Rattle.effects.specs.Rows.{span, in_span}
 use Rattle.exposed.specs.Reported.{Marked}
-use borrow.Author.Rules.{rules}
 use mathlib.Core.Path.{◌≡◌, subst}
-use Prim.Native.Nat.{◌-◌, ◌≤◌, ℕ}
+use Prim.Native.Nat.{◌-◌, ℕ}
 use Rattle.exposed.proofs.mark_from.Goals as goal
 
 pub loop-p-smaller : goal.loop-p-smaller

@@ -1,11 +1,7 @@
 -- `exposed::mark_from` meets its contract: with each turn the part of the span that is marked grows by one place. Assumes nothing.
-use Rattle.exposed.proofs.Marking.{mark_none, mark_more}
-use native.Mathlib.Omega.{arith}
 use Rattle.effects.specs.Rows.{span, in_span}
 use Rattle.exposed.specs.Reported.{Marked}
-use borrow.Author.Rules.{rules}
-use mathlib.Core.Path.{◌≡◌, subst}
-use Prim.Native.Nat.{◌-◌, ◌≤◌, ℕ}
+use Prim.Native.Nat.{◌-◌, ◌≤◌}
 use Rattle.exposed.proofs.mark_from.Given as goal
 
 abbrev pub invariant-loop-p : goal.invariant-loop-p

@@ -1,5 +1,4 @@
 -- `computed_flags` meets its contract: the three flags are put in one after the other, as in the definition. Assumes nothing.
-use borrow.Author.Rules.{rules}
 use Rattle.fields.proofs.computed_flags.Goals as goal
 
 pub returns : goal.returns

@@ -1,7 +1,6 @@
 -- `cut_to` meets its contract, size by size. Assumes nothing.
 use native.Mathlib.Omega.{arith}
 use Rattle.utils.specs.Word.{cut}
-use borrow.Author.Rules.{rules}
 use Rattle.fields.proofs.cut_to.Goals as goal
 
 pub returns-in-Bit64 : goal.returns-in-Bit64

@@ -1,5 +1,4 @@
 -- `fields::memory_value` meets its contract: each arm gives what the definition says. Assumes nothing.
-use borrow.Author.Rules.{rules}
 use Rattle.fields.proofs.memory_value.Goals as goal
 
 pub returns-in-Bit32 : goal.returns-in-Bit32

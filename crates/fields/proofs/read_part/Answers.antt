@@ -5,7 +5,6 @@ use Rattle.utils.proofs.Field.{cut_all}
 use Rattle.utils.proofs.Extend.{extend_whole, extend_cut, extend_low, extend_none}
 use native.Mathlib.Omega.{arith}
 use mathlib.Core.Path.{sym, ◌∙◌}
-use borrow.Author.Rules.{rules}
 use Rattle.fields.proofs.read_part.Goals as goal
 
 pub returns-in-Whole : goal.returns-in-Whole

@@ -3,7 +3,6 @@ use Rattle.fields.specs.FlagBits.{bit_set}
 use Rattle.utils.specs.Word.{cut}
 use Rattle.instruction_set.proofs.Bounds.{bytes_some, bytes_within}
 use native.Mathlib.Omega.{arith}
-use borrow.Author.Rules.{rules}
 use Rattle.fields.proofs.sign_bit.Goals as goal
 
 pub overflow_sub-top : goal.overflow_sub-top

@@ -1,5 +1,4 @@
 -- `sized_flags` meets its contract: it is the old form of the low bits (`sized_of_low`). Assumes nothing.
-use borrow.Author.Rules.{rules}
 use Rattle.fields.proofs.SizedFlags.{sized_of_low}
 use Rattle.fields.proofs.sized_flags.Goals as goal
 

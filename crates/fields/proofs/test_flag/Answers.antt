@@ -3,7 +3,6 @@ use Rattle.fields.specs.FlagBits.{bit_set}
 use Rattle.utils.specs.Word.{cut}
 use Rattle.instruction_set.proofs.Bounds.{bit_below}
 use native.Mathlib.Omega.{arith}
-use borrow.Author.Rules.{rules}
 use Rattle.fields.proofs.test_flag.Goals as goal
 
 pub overflow_shr-result : goal.overflow_shr-result

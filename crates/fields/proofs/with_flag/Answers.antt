@@ -4,7 +4,6 @@ use Rattle.fields.specs.FlagBits.{put_flag}
 use Rattle.fields.proofs.BitOf.{shifted_le, bit_in, bit_out, put_fits}
 use Rattle.instruction_set.proofs.Bounds.{bit_below}
 use native.Mathlib.Omega.{arith}
-use borrow.Author.Rules.{rules}
 use Rattle.fields.proofs.with_flag.Goals as goal
 
 pub overflow_shr-others : goal.overflow_shr-others

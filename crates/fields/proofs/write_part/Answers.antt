@@ -2,7 +2,6 @@
 use Rattle.fields.specs.Parts.{write_of}
 use Rattle.utils.specs.Word.{put}
 use native.Mathlib.Omega.{arith}
-use borrow.Author.Rules.{rules}
 use Rattle.fields.proofs.write_part.Goals as goal
 
 pub returns-in-Whole : goal.returns-in-Whole

@@ -1,6 +1,5 @@
 -- `answer_to` gives `answer_to`: its two ways out are the two of the definition. Assumes nothing.
 use mathlib.Core.Path.{sym}
-use borrow.Author.Rules.{rules}
 use Rattle.host.proofs.answer_to.Goals as goal
 
 pub returns-then-gives_value : goal.returns-then-gives_value

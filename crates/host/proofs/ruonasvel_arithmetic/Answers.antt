@@ -2,7 +2,6 @@
 -- numbers name, and the last is what `compute` gives. Assumes nothing.
 use Rattle.host.specs.LentWords.{lent_after, operated_on}
 use mathlib.Core.Path.{sym, ap, refl}
-use borrow.Author.Rules.{rules}
 use Rattle.host.proofs.ruonasvel_arithmetic.Goals as goal
 
 -- no operation has the number

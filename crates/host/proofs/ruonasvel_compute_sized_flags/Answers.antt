@@ -2,7 +2,6 @@
 -- two clauses. Assumes nothing.
 use Rattle.host.specs.LentWords.{sized_flags_on}
 use mathlib.Core.Path.{sym, refl}
-use borrow.Author.Rules.{rules}
 use Rattle.host.proofs.ruonasvel_compute_sized_flags.Goals as goal
 
 -- no size has the number

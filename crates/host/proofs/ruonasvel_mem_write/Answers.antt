@@ -1,6 +1,5 @@
 -- `ruonasvel_mem_write` owes `WroteLent`: what mmu's write owes (`Wrote`), its answer word by word. Assumes nothing.
 use mathlib.Core.Path.{sym}
-use borrow.Author.Rules.{rules}
 use Rattle.host.proofs.ruonasvel_mem_write.Goals as goal
 
 pub returns : goal.returns

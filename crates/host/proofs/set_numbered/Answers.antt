@@ -1,5 +1,4 @@
 -- `set_numbered` sets the flag that its number names: the two ways out are the clauses of `set_numbered`. Assumes nothing.
-use borrow.Author.Rules.{rules}
 use mathlib.Core.Path.{refl, sym}
 use Rattle.host.specs.Numbered.{set_numbered}
 use Rattle.host.proofs.set_numbered.Goals as goal

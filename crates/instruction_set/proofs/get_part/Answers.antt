@@ -1,6 +1,5 @@
 -- `instruction_set::get_part` meets its contract: each arm has one register, and gives its column of the table's row. Assumes nothing.
 use mathlib.Core.Path.{sym, ap}
-use borrow.Author.Rules.{rules}
 use Rattle.instruction_set.specs.Registers.{row, part_of}
 use Rattle.instruction_set.proofs.get_part.Goals as goal
 

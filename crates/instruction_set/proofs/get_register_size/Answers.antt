@@ -1,6 +1,5 @@
 -- `instruction_set::get_register_size` meets its contract. Assumes nothing.
 use mathlib.Core.Path.{◌∙◌, ap}
-use borrow.Author.Rules.{rules}
 use Rattle.instruction_set.specs.Sizes.{size_of_part}
 use Rattle.instruction_set.proofs.get_register_size.Goals as goal
 

@@ -1,5 +1,4 @@
 -- `instruction_set::size_bits` meets its contract: each arm is the definition's clause. Assumes nothing.
-use borrow.Author.Rules.{rules}
 use Rattle.instruction_set.proofs.size_bits.Goals as goal
 
 pub returns-in-Bit64 : goal.returns-in-Bit64

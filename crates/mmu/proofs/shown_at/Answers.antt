@@ -1,6 +1,5 @@
 -- `shown_at` gives `shown_at`: each test of the code is one of those of `cell`.
 use Rattle.mmu.proofs.Answers.{cell_low, cell_high, cell_odd, cell_on, shown_off, shown_on}
-use borrow.Author.Rules.{rules}
 use Rattle.mmu.proofs.shown_at.Goals as goal
 
 pub returns-then-p-lt753664 : goal.returns-then-p-lt753664

@@ -1,6 +1,5 @@
 -- `write_at` owes `Wrote`: done, or refused with 6, as `mem_write_phys` says (Answers.wrote-placed, wrote-lacking).
 use native.Mathlib.Omega.{arith}
-use borrow.Author.Rules.{rules}
 use borrow.Author.Tests.{not-true, not-false}
 use Rattle.store.specs.Store.{store_of}
 use Rattle.mmu.proofs.Answers.{wrote_placed, wrote_lacking, lacking_small}

@@ -2,7 +2,6 @@
 use Rattle.effects.proofs.Inside.{reads_inside, rewrites_inside}
 use Rattle.neighbours.proofs.Test.{both_reach, places_decide}
 use mathlib.Core.Path.{sym}
-use borrow.Author.Rules.{rules}
 use Rattle.neighbours.proofs.depends.Goals as goal
 
 -- both reach memory

@@ -1,7 +1,6 @@
 -- `neighbours::rows_meet` meets its contract: each of the four spans against the other row. Assumes nothing.
 use Rattle.neighbours.proofs.Test.{rows_test}
 use Rattle.effects.specs.Rows.{in_spans}
-use borrow.Author.Rules.{rules}
 use Rattle.neighbours.proofs.rows_meet.Goals as goal
 
 pub returns : goal.returns

@@ -2,7 +2,6 @@
 use Rattle.effects.specs.Rows.{in_span}
 use Rattle.neighbours.proofs.Test.{empty_meets_none, row_test}
 use mathlib.Core.Path.{sym}
-use borrow.Author.Rules.{rules}
 use Rattle.neighbours.proofs.span_meets_row.Goals as goal
 
 pub returns-then-span-eq0 : goal.returns-then-span-eq0

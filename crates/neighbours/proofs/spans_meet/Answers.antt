@@ -1,6 +1,5 @@
 -- `neighbours::spans_meet` meets its contract: the later start against the earlier end is the test by places. Assumes nothing.
 use Rattle.neighbours.proofs.Test.{spans_test}
-use borrow.Author.Rules.{rules}
 use Rattle.neighbours.proofs.spans_meet.Goals as goal
 
 pub returns : goal.returns

@@ -1,12 +1,9 @@
 -- `child` meets its contract. The loop's invariant: the answer is that among the letters from position i on. Assumes nothing.
-use mathlib.Core.List.{[], ◌∷◌}
 use mathlib.Core.Path.{◌≡◌, refl, sym, ◌∙◌}
-use Prim.Native.Nat.{◌+◌, ◌-◌, ◌≤◌}
 use native.Mathlib.Omega.{arith}
 use borrow.Author.Rules.{rules}
-use lib.ListN.{length, drop}
+use lib.ListN.{length}
 use lib.Seq.{drop-length}
-use Rattle.reading_names.specs.Nodes.{child_by}
 use Rattle.reading_names.proofs.Tables.{child_found, child_passed}
 use Rattle.reading_names.proofs.child.Goals as goal
 

@@ -1,13 +1,8 @@
 -- `child` meets its contract. The loop's invariant: the answer is that among the letters from position i on. Assumes nothing.
-use mathlib.Core.List.{[], ◌∷◌}
-use mathlib.Core.Path.{◌≡◌, refl, sym, ◌∙◌}
+use mathlib.Core.Path.{◌≡◌}
 use Prim.Native.Nat.{◌+◌, ◌-◌, ◌≤◌}
-use native.Mathlib.Omega.{arith}
-use borrow.Author.Rules.{rules}
 use lib.ListN.{length, drop}
-use lib.Seq.{drop-length}
 use Rattle.reading_names.specs.Nodes.{child_by}
-use Rattle.reading_names.proofs.Tables.{child_found, child_passed}
 use Rattle.reading_names.proofs.child.Given as goal
 
 abbrev pub invariant-loop-i : goal.invariant-loop-i

@@ -1,8 +1,6 @@
 -- `next_node` meets its contract: the nodes of its arms have these letters, and the others are past 9. Assumes nothing.
 use mathlib.Core.List.{List, [], ◌∷◌}
-use mathlib.Core.Path.{refl}
 use Prim.Native.Nat.{ℕ}
-use lib.Dec.{lit≤}
 use Rattle.reading_names.specs.Nodes.{beginnings, spelt}
 use Rattle.reading_names.proofs.Tables.{arm, past}
 use Rattle.reading_names.proofs.next_node.Goals as goal

@@ -1,5 +1,4 @@
 -- `number` meets its contract: the constant is the positions of the beginnings among the names. Assumes nothing.
-use borrow.Author.Rules.{rules}
 use Rattle.reading_names.proofs.Tables.{numbers, numbered}
 use Rattle.reading_names.proofs.number.Goals as goal
 

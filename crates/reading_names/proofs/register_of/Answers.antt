@@ -1,6 +1,5 @@
 -- `register_of` meets its contract: the number of a node is that of the register it names. Assumes nothing.
 use mathlib.Core.Path.{sym, ap, ◌∙◌}
-use borrow.Author.Rules.{rules}
 use Rattle.wire_numbers.specs.Numbers.{register_at}
 use Rattle.reading_names.specs.Nodes.{register_of}
 use Rattle.reading_names.proofs.Spelling.{none_outside}

@@ -1,8 +1,7 @@
 -- `third_or_fourth` meets its contract: the nodes of its arms have these letters, and the others have none. Assumes nothing.
 use mathlib.Core.List.{List, [], ◌∷◌}
-use mathlib.Core.Path.{refl, sym}
+use mathlib.Core.Path.{sym}
 use Prim.Native.Nat.{ℕ}
-use lib.Dec.{lit≤}
 use Rattle.reading_names.specs.Nodes.{beginnings, spelt}
 use Rattle.reading_names.proofs.Tables.{arm, leaf}
 use Rattle.reading_names.proofs.third_or_fourth.Goals as goal

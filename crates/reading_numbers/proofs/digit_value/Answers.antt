@@ -2,7 +2,6 @@
 use mathlib.Core.Path.{◌≡◌, sym, ◌∙◌}
 use Prim.Native.Nat.{◌+◌, ◌-◌, ◌≤◌}
 use native.Mathlib.Omega.{arith}
-use borrow.Author.Rules.{rules}
 use Rattle.reading_numbers.proofs.Digits.{value_low, value_decimal, value_between, value_letter, value_high}
 use Rattle.reading_numbers.proofs.digit_value.Goals as goal
 

@@ -1,7 +1,6 @@
 -- `displacement` meets its contract: 32 bits from 2^31 on are read by their distance below 0. Assumes nothing.
 use Prim.Native.Nat.{◌<◌}
 use native.Mathlib.Omega.{arith}
-use borrow.Author.Rules.{rules}
 use mir.Facts.{to_z-of_z, sfits_to_z}
 use Rattle.reading_numbers.proofs.Signs.{negated_fits, narrowed}
 use Rattle.reading_numbers.proofs.displacement.Goals as goal

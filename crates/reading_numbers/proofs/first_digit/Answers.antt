@@ -1,6 +1,5 @@
 -- `first_digit` meets its contract: a digit of the radix that is not below the least. Assumes nothing.
 use borrow.Author.Tests.{lt-ltb, le-ltb, lt-leb, le-leb}
-use borrow.Author.Rules.{rules}
 use Rattle.reading_numbers.specs.Numerals.{first_digit}
 use Rattle.reading_numbers.proofs.first_digit.Goals as goal
 

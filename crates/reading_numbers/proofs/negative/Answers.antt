@@ -1,8 +1,7 @@
 -- `negative` meets its contract: by the bounds. Assumes nothing.
 use mathlib.Core.Path.{◌≡◌}
-use Prim.Native.Nat.{ℕ, ◌<◌}
+use Prim.Native.Nat.{◌<◌}
 use native.Mathlib.Omega.{arith}
-use borrow.Author.Rules.{rules}
 use borrow.Author.Tests.{lt-leb, le-leb, lt-ltb}
 use Rattle.reading_numbers.specs.Numerals.{negative_bits}
 use Rattle.reading_numbers.proofs.negative.Goals as goal

@@ -2,7 +2,6 @@
 use Prim.Native.Nat.{◌<◌}
 use native.Mathlib.Omega.{arith}
 use borrow.Author.Tests.{lt-ltb, le-ltb, lt-leb, le-leb}
-use borrow.Author.Rules.{rules}
 use Rattle.reading_numbers.specs.Numerals.{radix_of, next_digit}
 use Rattle.reading_numbers.proofs.Growth.{radix, digit_within, past, not_past}
 use Rattle.reading_numbers.proofs.next_digit.Goals as goal

@@ -1,7 +1,6 @@
 -- `positive` meets its contract. Assumes nothing.
 use borrow.Author.Tests.{lt-leb, le-leb}
 use Rattle.reading_numbers.specs.Numerals.{positive_bits}
-use borrow.Author.Rules.{rules}
 use Rattle.reading_numbers.proofs.positive.Goals as goal
 
 pub returns-then-most_of-v : goal.returns-then-most_of-v

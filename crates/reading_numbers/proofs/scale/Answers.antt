@@ -1,7 +1,6 @@
 -- `scale` meets its contract: what a scale may come to fits a byte. Assumes nothing.
 use native.Mathlib.Omega.{arith}
 use borrow.Author.Tests.{lt-leb, le-leb}
-use borrow.Author.Rules.{rules}
 use Rattle.reading_numbers.specs.Numerals.{scale_of}
 use Rattle.reading_numbers.proofs.scale.Goals as goal
 

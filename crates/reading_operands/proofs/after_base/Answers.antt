@@ -1,6 +1,5 @@
 -- `after_base` meets its contract: what follows a base: the address ends, or an index comes. Assumes nothing.
 use borrow.Author.Tests.{eq-eqb, ne_eqb}
-use borrow.Author.Rules.{rules}
 use Rattle.reading_operands.proofs.after_base.Goals as goal
 
 pub returns-then-b-eq41 : goal.returns-then-b-eq41

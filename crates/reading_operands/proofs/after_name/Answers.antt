@@ -1,5 +1,4 @@
 -- `after_name` meets its contract: by the role of the name. Assumes nothing.
-use borrow.Author.Rules.{rules}
 use Rattle.reading_operands.proofs.after_name.Goals as goal
 
 pub returns-in-Operand : goal.returns-in-Operand

@@ -1,5 +1,4 @@
 -- `after_node` meets its contract: by whether the letters are a whole name. Assumes nothing.
-use borrow.Author.Rules.{rules}
 use Rattle.reading_operands.proofs.after_node.Goals as goal
 
 pub returns-in-Absent : goal.returns-in-Absent

@@ -1,5 +1,4 @@
 -- `after_number` meets its contract: by the role of the number. Assumes nothing.
-use borrow.Author.Rules.{rules}
 use Rattle.reading_operands.proofs.after_number.Goals as goal
 
 pub returns-in-Above : goal.returns-in-Above

@@ -1,6 +1,5 @@
 -- `begin` meets its contract: by the first byte of an operand. Assumes nothing.
 use borrow.Author.Tests.{eq-eqb, ne_eqb}
-use borrow.Author.Rules.{rules}
 use Rattle.reading_operands.proofs.begin.Goals as goal
 
 pub returns-then-b-eq37 : goal.returns-then-b-eq37

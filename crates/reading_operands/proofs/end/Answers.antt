@@ -1,5 +1,4 @@
 -- `end` meets its contract: by whether an operand is read to its end. Assumes nothing.
-use borrow.Author.Rules.{rules}
 use Rattle.reading_operands.proofs.end.Goals as goal
 
 pub returns-in-Absent : goal.returns-in-Absent

@@ -1,5 +1,4 @@
 -- `finish` meets its contract: by the phase. Assumes nothing.
-use borrow.Author.Rules.{rules}
 use Rattle.reading_operands.proofs.finish.Goals as goal
 
 pub returns-in-Lead : goal.returns-in-Lead

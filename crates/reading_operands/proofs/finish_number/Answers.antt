@@ -1,5 +1,4 @@
 -- `finish_number` meets its contract: by the role of the number. Assumes nothing.
-use borrow.Author.Rules.{rules}
 use Rattle.reading_operands.proofs.finish_number.Goals as goal
 
 pub returns-in-Immediate : goal.returns-in-Immediate

@@ -1,5 +1,4 @@
 -- `finish_register` meets its contract: by whether the letters are a whole name. Assumes nothing.
-use borrow.Author.Rules.{rules}
 use Rattle.reading_operands.proofs.finish_register.Goals as goal
 
 pub returns-in-Absent : goal.returns-in-Absent

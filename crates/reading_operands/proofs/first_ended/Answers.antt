@@ -1,6 +1,5 @@
 -- `first_ended` meets its contract: a comma, and no operand before this one. Assumes nothing.
 use borrow.Author.Tests.{eq-eqb, ne_eqb}
-use borrow.Author.Rules.{rules}
 use Rattle.reading_operands.proofs.first_ended.Goals as goal
 
 pub returns-then-b-ne44 : goal.returns-then-b-ne44

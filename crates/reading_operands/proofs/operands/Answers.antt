@@ -1,5 +1,4 @@
 -- `operands` meets its contract: by whether there is a first of two. Assumes nothing.
-use borrow.Author.Rules.{rules}
 use Rattle.reading_operands.proofs.operands.Goals as goal
 
 pub returns-in-Absent : goal.returns-in-Absent

@@ -1,12 +1,10 @@
 -- `read_bytes` meets its contract. The invariant: what is left of the text, read from the state at offset k, gives what the whole text
 -- gives; each turn takes a byte off what is left. Assumes nothing.
 use native.Mathlib.Omega.{arith}
-use borrow.Author.Rules.{rules}
-use lib.ListN.{length, drop, get_or}
-use Rattle.reading_operands.specs.Reader.{state, read_from, reader_answer}
+use lib.ListN.{get_or}
+use Rattle.reading_operands.specs.Reader.{state}
 use Rattle.reading_operands.proofs.Turns.{went_on, halted, second_goes, goes_on, stops, ends}
-use mathlib.Core.Path.{◌≡◌, refl, sym, ◌∙◌}
-use Prim.Native.Nat.{◌-◌, ◌≤◌}
+use mathlib.Core.Path.{refl, sym, ◌∙◌}
 use Rattle.reading_operands.proofs.read_bytes.Goals as goal
 use Rattle.reading_operands.proofs.read_bytes.Goals.{in-To, in-Nowhere+in-Present}
 

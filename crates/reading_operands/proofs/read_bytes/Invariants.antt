@@ -1,12 +1,8 @@
 -- `read_bytes` meets its contract. The invariant: what is left of the text, read from the state at offset k, gives what the whole text
 -- gives; each turn takes a byte off what is left. Assumes nothing.
-use native.Mathlib.Omega.{arith}
-use borrow.Author.Rules.{rules}
-use lib.ListN.{length, drop, get_or}
+use lib.ListN.{length, drop}
 use Rattle.reading_operands.specs.Reader.{state, read_from, reader_answer}
-use Rattle.reading_operands.proofs.Turns.{went_on, halted, second_goes, goes_on, stops, ends}
-use mathlib.Core.Logic.{⊎_elim}
-use mathlib.Core.Path.{◌≡◌, refl, sym, ◌∙◌}
+use mathlib.Core.Path.{◌≡◌}
 use Prim.Native.Nat.{◌-◌, ◌≤◌}
 use Rattle.reading_operands.proofs.read_bytes.Given as goal
 

@@ -1,5 +1,4 @@
 -- `read_operands` meets its contract: what the reader says is an answer to the text. Assumes nothing.
-use borrow.Author.Rules.{rules}
 use Rattle.reading_operands.proofs.Answers.{answered}
 use Rattle.reading_operands.proofs.read_operands.Goals as goal
 

@@ -1,5 +1,4 @@
 -- `step_digits` meets its contract: by whether the number goes on with the byte. Assumes nothing.
-use borrow.Author.Rules.{rules}
 use Rattle.reading_operands.proofs.step_digits.Goals as goal
 
 pub returns-in-Absent : goal.returns-in-Absent

@@ -1,5 +1,4 @@
 -- `step_first_digit` meets its contract: by whether a number begins with the byte. Assumes nothing.
-use borrow.Author.Rules.{rules}
 use Rattle.reading_operands.proofs.step_first_digit.Goals as goal
 
 pub returns-in-Absent : goal.returns-in-Absent

@@ -1,5 +1,4 @@
 -- `step_lead` meets its contract: by what stands before the digits. Assumes nothing.
-use borrow.Author.Rules.{rules}
 use Rattle.reading_operands.proofs.step_lead.Goals as goal
 
 pub returns-in-Nothing : goal.returns-in-Nothing

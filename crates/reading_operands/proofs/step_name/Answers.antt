@@ -1,6 +1,5 @@
 -- `step_name` meets its contract: by whether a name goes on with the letter. Assumes nothing.
 use borrow.Author.Tests.{le-ltb, lt-ltb}
-use borrow.Author.Rules.{rules}
 use Rattle.reading_operands.proofs.step_name.Goals as goal
 
 pub returns-then-next-lt-NODES : goal.returns-then-next-lt-NODES

@@ -1,6 +1,5 @@
 -- `step_opened` meets its contract: a base, or none before the index. Assumes nothing.
 use borrow.Author.Tests.{eq-eqb, ne_eqb}
-use borrow.Author.Rules.{rules}
 use Rattle.reading_operands.proofs.step_opened.Goals as goal
 
 pub returns-then-b-eq37 : goal.returns-then-b-eq37

@@ -1,5 +1,4 @@
 -- `step_phase` meets its contract: by the phase. Assumes nothing.
-use borrow.Author.Rules.{rules}
 use Rattle.reading_operands.proofs.step_phase.Goals as goal
 
 pub returns-in-Lead : goal.returns-in-Lead

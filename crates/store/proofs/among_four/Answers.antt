@@ -4,7 +4,6 @@ use mathlib.Core.List.{List}
 use Prim.Native.Nat.{ℕ, ◌+◌, ◌≤◌}
 use native.Mathlib.Omega.{arith}
 use lib.ListN.{length, get_or}
-use borrow.Author.Rules.{rules}
 use Rattle.store.specs.Store.{seek}
 use Rattle.store.proofs.Seek.{seek_le, seek_more}
 use Rattle.store.proofs.among_four.Goals as goal

@@ -1,11 +1,7 @@
 -- `count_absent` gives `absent_of` of the pages touched: what is counted and what is left make the whole (Absent.pages-turn).
-use Rattle.store.proofs.Absent.{touched_pages, touched_none, pages_turn, pages_none}
 use Rattle.store.specs.Store.{absent_of, pages_from, touched}
 use lib.ListN.{take}
-use native.Mathlib.Nat.{zero-add}
-use native.Mathlib.Omega.{arith}
-use borrow.Author.Rules.{rules}
-use mathlib.Core.Path.{◌≡◌, refl, sym, ap, ◌∙◌}
+use mathlib.Core.Path.{◌≡◌}
 use Prim.Native.Nat.{◌+◌, ◌≤◌}
 use Rattle.store.proofs.count_absent.Given as goal
 

@@ -1,10 +1,8 @@
 -- `find_page` gives `found_in`: while the loop runs, no slot before i holds the page, in the whole directory; the laws of `take` say that
 -- the first of the slots in use is then the first of all, if it is among them.
 use mathlib.Core.Path.{sym}
-use Prim.Native.Nat.{◌+◌, ◌-◌, ◌≤◌}
+use Prim.Native.Nat.{◌+◌}
 use native.Mathlib.Omega.{arith}
-use borrow.Author.Rules.{rules}
-use Rattle.store.specs.Store.{seek}
 use Rattle.store.proofs.Seek.{seek_le, seek_more, found_taken, none_taken}
 use Rattle.store.proofs.find_page.Goals as goal
 

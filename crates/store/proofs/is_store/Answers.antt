@@ -1,7 +1,6 @@
 -- `is_store` gives `is_store`: each test of the code is one of its three conjuncts.
 use borrow.Author.Tests.{le-leb, lt-leb}
 use Rattle.store.specs.Store.{is_store}
-use borrow.Author.Rules.{rules}
 use Rattle.store.proofs.is_store.Goals as goal
 
 pub returns-then-dir-gt65536 : goal.returns-then-dir-gt65536

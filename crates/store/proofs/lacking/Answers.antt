@@ -2,7 +2,6 @@
 use Rattle.store.specs.Store.{slots_needed}
 use native.Mathlib.Omega.{arith}
 use mathlib.Core.Path.{sym, ap, ◌∙◌}
-use borrow.Author.Rules.{rules}
 use Rattle.store.proofs.lacking.Goals as goal
 
 pub returns-in-At : goal.returns-in-At

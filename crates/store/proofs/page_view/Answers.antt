@@ -4,7 +4,6 @@ use Rattle.store.proofs.Read.{sound_facts, slot_held}
 use borrow.Author.Tests.{not-true, not-false}
 use native.Mathlib.Omega.{arith}
 use mathlib.Core.Path.{sym, ◌∙◌}
-use borrow.Author.Rules.{rules}
 use Rattle.store.proofs.page_view.Goals as goal
 
 -- no store

@@ -1,7 +1,6 @@
 -- `slot_of` gives `slot_of`: its test is whether the bytes end in the page they begin in.
 use mathlib.Core.Path.{sym, ◌∙◌}
 use native.Mathlib.Omega.{arith}
-use borrow.Author.Rules.{rules}
 use Rattle.store.proofs.Absent.{slot_in, slot_none}
 use Rattle.store.proofs.slot_of.Goals as goal
 

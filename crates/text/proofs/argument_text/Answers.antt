@@ -1,5 +1,4 @@
 -- `argument_text` meets its contract: it is `format` at 64 bits. Assumes nothing.
-use borrow.Author.Rules.{rules}
 use Rattle.text.proofs.argument_text.Goals as goal
 
 pub returns : goal.returns

@@ -1,7 +1,6 @@
 -- `arguments_text` meets its contract, by cases on the two arguments and on the size that is selected. Assumes nothing.
 use Rattle.text.proofs.Answering.{declined, nothing_said, by_size, size_refused}
 use mathlib.Core.Path.{◌∙◌}
-use borrow.Author.Rules.{rules}
 use Rattle.text.proofs.arguments_text.Goals as goal
 
 pub returns-in-Present-second : goal.returns-in-Present-second

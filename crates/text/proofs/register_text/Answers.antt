@@ -1,5 +1,4 @@
 -- `register_text` meets its contract: the text of a register is that of the operand which it is. Assumes nothing.
-use borrow.Author.Rules.{rules}
 use Rattle.text.proofs.register_text.Goals as goal
 
 pub returns : goal.returns

@@ -1,7 +1,6 @@
 -- `state_text` meets its contract: the text is measured, and then written or refused. Assumes nothing.
 use Rattle.text.proofs.Answering.{too_long, in_room}
 use native.Mathlib.Omega.{arith}
-use borrow.Author.Rules.{rules}
 use Rattle.text.proofs.state_text.Goals as goal
 
 pub returns-then-out-n : goal.returns-then-out-n

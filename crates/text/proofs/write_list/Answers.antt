@@ -2,7 +2,6 @@
 -- then written or refused. Assumes nothing.
 use Rattle.text.proofs.Answering.{declined, too_long, in_room}
 use native.Mathlib.Omega.{arith}
-use borrow.Author.Rules.{rules}
 use Rattle.text.proofs.write_list.Goals as goal
 
 -- the first lacks a scale

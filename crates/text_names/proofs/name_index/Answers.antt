@@ -1,6 +1,5 @@
 -- `name_index` meets its contract: the sum is the register's cell. Assumes nothing.
 use native.Mathlib.Omega.{arith}
-use borrow.Author.Rules.{rules}
 use Rattle.text_names.proofs.name_index.Goals as goal
 
 pub overflow_add-result : goal.overflow_add-result

@@ -1,12 +1,11 @@
 -- `put_cell` meets its contract. The loop's invariant: what is left to write is the name from byte k of the cell on. Assumes nothing.
 use mathlib.Core.Path.{◌≡◌, sym, ◌∙◌}
-use Prim.Native.Nat.{◌+◌, ◌-◌, ◌*◌, ◌≤◌}
+use Prim.Native.Nat.{◌+◌, ◌-◌, ◌*◌}
 use native.Mathlib.Nat.{add-zero}
 use native.Mathlib.Omega.{arith}
-use borrow.Author.Rules.{rules}
-use Rattle.text_names.specs.Names.{name_from, name_at}
+use Rattle.text_names.specs.Names.{name_from}
 use Rattle.text_names.proofs.Cells.{from_space, from_pos, from_most}
-use Rattle.text_pieces.proofs.Writing.{Rest, begin, onward, finish, same_long}
+use Rattle.text_pieces.proofs.Writing.{begin, onward, finish, same_long}
 use Rattle.text_names.proofs.put_cell.Goals as goal
 
 pub overflow_mul-n : goal.overflow_mul-n

@@ -1,5 +1,4 @@
 -- `put_name` meets its contract: the register's cell spells its name. Assumes nothing.
-use borrow.Author.Rules.{rules}
 use Rattle.text_names.proofs.put_name.Goals as goal
 
 pub returns : goal.returns

@@ -1,5 +1,4 @@
 -- `lacks_scale` meets its contract, by cases on the operand, its index and its scale. Assumes nothing.
-use borrow.Author.Rules.{rules}
 use Rattle.text_operands.proofs.lacks_scale.Goals as goal
 
 pub returns-in-Absent : goal.returns-in-Absent

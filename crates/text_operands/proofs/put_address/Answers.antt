@@ -1,7 +1,6 @@
 -- `put_address` meets its contract, by cases on index and base, its pieces one after the other. Assumes nothing.
 use native.Mathlib.Omega.{arith}
 use Rattle.text_pieces.proofs.Writing.{◌then◌, nothing, widen}
-use borrow.Author.Rules.{rules}
 use Rattle.text_operands.proofs.put_address.Goals as goal
 
 -- neither base nor index

@@ -1,7 +1,6 @@
 -- `put_base` meets its contract, by cases on the base. Assumes nothing.
 use Rattle.text_pieces.proofs.Writing.{nothing}
 use native.Mathlib.Omega.{arith}
-use borrow.Author.Rules.{rules}
 use Rattle.text_operands.proofs.put_base.Goals as goal
 
 pub returns-in-Absent : goal.returns-in-Absent

@@ -6,7 +6,6 @@ use lib.IntN.{pos}
 use mathlib.Core.Bool.{true, false}
 use mathlib.Core.Path.{◌≡◌}
 use native.Mathlib.Omega.{arith}
-use borrow.Author.Rules.{rules}
 use Rattle.text_operands.proofs.put_displacement.Goals as goal
 
 pub returns-then-d-lt0 : goal.returns-then-d-lt0

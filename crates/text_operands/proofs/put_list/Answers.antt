@@ -1,7 +1,6 @@
 -- `put_list` meets its contract, by cases on the second operand. Assumes nothing.
 use native.Mathlib.Omega.{arith}
-use Rattle.text_pieces.proofs.Writing.{◌then◌, nothing, widen}
-use borrow.Author.Rules.{rules}
+use Rattle.text_pieces.proofs.Writing.{◌then◌, widen}
 use Rattle.text_operands.proofs.put_list.Goals as goal
 
 pub returns-in-Absent : goal.returns-in-Absent

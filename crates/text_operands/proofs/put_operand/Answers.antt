@@ -1,8 +1,7 @@
 -- `put_operand` meets its contract, by cases on the operand. Assumes nothing.
 use Rattle.text_operands.proofs.Displacement.{whole}
 use native.Mathlib.Omega.{arith}
-use Rattle.text_pieces.proofs.Writing.{◌then◌, nothing, widen}
-use borrow.Author.Rules.{rules}
+use Rattle.text_pieces.proofs.Writing.{◌then◌, widen}
 use Rattle.text_operands.proofs.put_operand.Goals as goal
 
 pub returns-in-Immediate : goal.returns-in-Immediate

@@ -1,6 +1,5 @@
 -- `put_register` meets its contract: `%`, then the name. Assumes nothing.
-use Rattle.text_pieces.proofs.Writing.{◌then◌, nothing}
-use borrow.Author.Rules.{rules}
+use Rattle.text_pieces.proofs.Writing.{◌then◌}
 use Rattle.text_operands.proofs.put_register.Goals as goal
 
 pub returns : goal.returns

@@ -1,6 +1,5 @@
 -- `digit_count` meets its contract: a word has at most 64 leading zeros. Assumes nothing.
 use native.Mathlib.Omega.{arith}
-use borrow.Author.Rules.{rules}
 use lib.Count.{leading_le}
 use Rattle.text_pieces.proofs.digit_count.Goals as goal
 

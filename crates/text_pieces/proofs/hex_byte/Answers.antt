@@ -1,6 +1,5 @@
 -- `hex_byte` meets its contract, on either side of 10. Assumes nothing.
 use native.Mathlib.Omega.{arith}
-use borrow.Author.Rules.{rules}
 use borrow.Author.Tests.{lt-ltb, le-ltb}
 use Rattle.text_pieces.proofs.hex_byte.Goals as goal
 

@@ -1,7 +1,6 @@
 -- `put_byte` meets its contract: a byte past the end is not stored, and after the last offset comes none. Assumes nothing.
 use mathlib.Core.Path.{refl, sym, ◌∙◌}
 use native.Mathlib.Omega.{arith}
-use borrow.Author.Rules.{rules}
 use lib.Seq.{set_out}
 use Rattle.text_pieces.proofs.Writing.{place_near, place_last}
 use Rattle.text_pieces.proofs.put_byte.Goals as goal

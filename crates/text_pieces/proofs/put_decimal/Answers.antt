@@ -2,7 +2,6 @@
 use Rattle.text_pieces.proofs.Writing.{◌then◌, widen}
 use borrow.Author.Tests.{lt-ltb, le-ltb}
 use native.Mathlib.Omega.{arith}
-use borrow.Author.Rules.{rules}
 use Rattle.text_pieces.proofs.put_decimal.Goals as goal
 
 pub returns-then-x-lt10 : goal.returns-then-x-lt10

@@ -1,11 +1,9 @@
 -- `put_digits` meets its contract. The loop's invariant: the k lowest digits are left to write. Assumes nothing.
 use mathlib.Core.Path.{◌≡◌}
-use Prim.Native.Nat.{◌≤◌}
 use native.Mathlib.Omega.{arith}
-use borrow.Author.Rules.{rules}
 use Rattle.text_pieces.specs.Hex.{hex_digits}
 use Rattle.text_pieces.proofs.Longest.{length_digits}
-use Rattle.text_pieces.proofs.Writing.{digits_pos, Rest, begin, onward, finish, same_long}
+use Rattle.text_pieces.proofs.Writing.{digits_pos, begin, onward, finish, same_long}
 use Rattle.text_pieces.proofs.put_digits.Goals as goal
 
 pub loop-k-init : goal.loop-k-init

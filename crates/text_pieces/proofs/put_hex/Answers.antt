@@ -1,5 +1,4 @@
 -- `put_hex` meets its contract: least width is a fixed width, that of `digit_count`. Assumes nothing.
-use borrow.Author.Rules.{rules}
 use Rattle.text_pieces.proofs.put_hex.Goals as goal
 
 pub returns : goal.returns

@@ -1,8 +1,7 @@
 -- `put_spaces` meets its contract. The loop's invariant: k spaces are left to write. Assumes nothing.
-use borrow.Author.Rules.{rules}
 use native.Mathlib.Omega.{arith}
-use Rattle.text_pieces.proofs.Writing.{spaces_pos, Rest, begin, onward, finish, same_long}
-use lib.ListN.{replicate, length-replicate}
+use Rattle.text_pieces.proofs.Writing.{spaces_pos, begin, onward, finish, same_long}
+use lib.ListN.{length-replicate}
 use mathlib.Core.Path.{◌≡◌}
 use Rattle.text_pieces.proofs.put_spaces.Goals as goal
 

@@ -1,9 +1,6 @@
 -- `put_spaces` meets its contract. The loop's invariant: k spaces are left to write. Assumes nothing.
-use borrow.Author.Rules.{rules}
-use native.Mathlib.Omega.{arith}
-use Rattle.text_pieces.proofs.Writing.{spaces_pos, Rest, begin, onward, finish, same_long}
-use lib.ListN.{replicate, length-replicate}
-use mathlib.Core.Path.{◌≡◌}
+use Rattle.text_pieces.proofs.Writing.{Rest}
+use lib.ListN.{replicate}
 use Rattle.text_pieces.proofs.put_spaces.Given as goal
 
 abbrev pub invariant-loop-k : goal.invariant-loop-k

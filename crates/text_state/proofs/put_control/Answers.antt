@@ -5,7 +5,6 @@ use Rattle.instruction_set.proofs.Bounds.{parent_below}
 use Rattle.instruction_set.specs.Registers.{parent_of}
 use Rattle.text_pieces.proofs.Writing.{◌then◌, nothing}
 use Prim.Native.Nat.{◌<◌, ◌≤◌}
-use borrow.Author.Rules.{rules}
 use Rattle.text_state.proofs.put_control.Goals as goal
 
 -- no control register: no line

@@ -1,7 +1,6 @@
 -- `put_event` meets its contract, by cases on the event. Assumes nothing.
 use native.Mathlib.Omega.{arith}
 use Rattle.text_pieces.proofs.Writing.{nothing, widen}
-use borrow.Author.Rules.{rules}
 use Rattle.text_state.proofs.put_event.Goals as goal
 
 pub returns-in-Quiet : goal.returns-in-Quiet

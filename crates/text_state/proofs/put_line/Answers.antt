@@ -2,7 +2,6 @@
 use Rattle.text_pieces.proofs.Writing.{◌then◌}
 use Rattle.instruction_set.proofs.Bounds.{parent_below}
 use native.Mathlib.Omega.{arith}
-use borrow.Author.Rules.{rules}
 use Rattle.text_state.proofs.put_line.Goals as goal
 
 pub offset_bounds-regs-parent : goal.offset_bounds-regs-parent

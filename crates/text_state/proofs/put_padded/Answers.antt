@@ -5,7 +5,6 @@ use Rattle.text_names.specs.Names.{name_of}
 use Rattle.text_pieces.proofs.Writing.{◌then◌, tight, place_near, forward, reach}
 use mathlib.Core.Path.{◌≡◌}
 use Prim.Native.Nat.{◌-◌}
-use borrow.Author.Rules.{rules}
 use Rattle.text_state.proofs.put_padded.Goals as goal
 
 pub overflow_sub-o : goal.overflow_sub-o

@@ -4,12 +4,10 @@ use borrow.Author.Rules.{rules}
 use native.Mathlib.Omega.{arith}
 use Rattle.text_state.proofs.Longest.{lines_most}
 use Rattle.text_state.proofs.StateLines.{next_line}
-use Rattle.text_pieces.proofs.Writing.{Rest, begin, onward, finish, same_long, reach, ◌then◌}
+use Rattle.text_pieces.proofs.Writing.{begin, onward, finish, same_long, reach, ◌then◌}
 use Rattle.text_state.specs.Lines.{lines_after, others}
 use Rattle.instruction_set.specs.declared.Register.TheVariants.{RAX}
-use lib.ListN.{drop}
 use mathlib.Core.Path.{◌≡◌, ◌∙◌}
-use Prim.Native.Nat.{◌+◌, ◌-◌, ◌*◌, ◌≤◌}
 use Rattle.text_state.proofs.put_state.Goals as goal
 
 pub other_at-requires : goal.other_at-requires

@@ -2,7 +2,6 @@
 use borrow.Author.Tests.{lt-ltb, le-ltb}
 use native.Mathlib.Omega.{arith}
 use Rattle.text_pieces.proofs.Writing.{◌then◌, widen}
-use borrow.Author.Rules.{rules}
 use Rattle.text_state.proofs.put_video.Goals as goal
 
 pub returns-then-byte-lt128 : goal.returns-then-byte-lt128

@@ -1,7 +1,7 @@
 -- `utils::bytes_to_word` meets its contract: each partial sum fits, and the whole is the bytes' number (Bytes,
 -- `from_eight`). Assumes nothing.
 use Rattle.utils.proofs.Bytes.{from_eight}
-use Rattle.std.proofs.Common.{arith, rules}
+use Rattle.std.proofs.Common.{arith}
 use Rattle.utils.proofs.bytes_to_word.Goals as goal
 
 pub overflow_mul-result : goal.overflow_mul-result

@@ -1,7 +1,7 @@
 -- `utils::convert_i16_to_u8vec` meets its contract: the two lowest bytes of the number's 64 bits. Assumes nothing.
 use Rattle.utils.specs.Bytes.{to_bytes}
 use Rattle.utils.proofs.TwosComplement.{widened, through}
-use Rattle.std.proofs.Common.{w16, rules}
+use Rattle.std.proofs.Common.{w16}
 use Rattle.utils.proofs.convert_i16_to_u8vec.Goals as goal
 
 pub overflow_cast-value : goal.overflow_cast-value

@@ -1,6 +1,6 @@
 -- `utils::convert_i64_to_u8vec` meets its contract: the bytes of the number's 64 bits. Assumes nothing.
 use mir.ValLaws.{to_z-of_z}
-use Rattle.std.proofs.Common.{w64, rules}
+use Rattle.std.proofs.Common.{w64}
 use Rattle.utils.proofs.convert_i64_to_u8vec.Goals as goal
 
 pub returns : goal.returns

@@ -1,5 +1,5 @@
 -- `utils::sign_extend` meets its contract: by the sign bit, the bits below it stand alone or under ones (Extend). Assumes nothing.
-use Rattle.std.proofs.Common.{◌-◌, ◌^◌, ◌<◌, sym, mod-lt, arith, pow_pos, rules}
+use Rattle.std.proofs.Common.{◌-◌, ◌^◌, ◌<◌, sym, mod-lt, arith, pow_pos}
 use lib.Pow.{pow-lt}
 use Rattle.utils.proofs.Extend.{extend_none, extend_whole, power, extend_clear, extend_set}
 use Rattle.utils.proofs.sign_extend.Goals as goal

@@ -1,5 +1,4 @@
 -- `utils::signed` meets its contract: a word whose top bit is set is -(n + 1) for the n that it lacks to 2^64 - 1. Assumes nothing.
-use Rattle.std.proofs.Common.{rules}
 use Rattle.utils.proofs.TwosComplement.{minus_fits, less_is, less_fits, read_back}
 use Rattle.utils.proofs.signed.Goals as goal
 

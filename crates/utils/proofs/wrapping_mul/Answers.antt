@@ -1,5 +1,5 @@
 -- `utils::wrapping_mul` meets its contract: the products of halves fit, and their sum is the product's low 64 bits. Assumes nothing.
-use Rattle.std.proofs.Common.{◌/◌, ◌%◌, sym, ◌∙◌, arith, rules}
+use Rattle.std.proofs.Common.{◌/◌, ◌%◌, sym, ◌∙◌, arith}
 use Rattle.utils.proofs.Product.{half_by_half, by_halves}
 use Rattle.utils.proofs.wrapping_mul.Goals as goal
 

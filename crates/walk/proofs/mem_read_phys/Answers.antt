@@ -2,7 +2,7 @@
 use Rattle.store.proofs.Read.{sound_facts}
 use Rattle.walk.proofs.Walked.{read_of, read_none}
 use borrow.Author.Tests.{not-true, not-false}
-use Rattle.std.proofs.Common.{sym, ◌∙◌, rules}
+use Rattle.std.proofs.Common.{sym, ◌∙◌}
 use Rattle.walk.proofs.mem_read_phys.Goals as goal
 
 pub returns-then-not-is_store : goal.returns-then-not-is_store

@@ -2,7 +2,7 @@
 use Rattle.store.proofs.Read.{sound_facts}
 use Rattle.walk.proofs.Walked.{physical_off, physical_on, translated_of, translated_none}
 use borrow.Author.Tests.{not-true, not-false}
-use Rattle.std.proofs.Common.{sym, ◌∙◌, arith, rules}
+use Rattle.std.proofs.Common.{sym, ◌∙◌, arith}
 use Rattle.walk.proofs.translate_virtual_to_physical_address.Goals as goal
 
 pub returns-then-not-is_store : goal.returns-then-not-is_store

@@ -1,7 +1,6 @@
 -- `register_at` gives `register_at`: the register of the list, and nothing past its end. Assumes nothing.
 use mathlib.Core.Path.{sym}
 use native.Mathlib.Omega.{arith}
-use borrow.Author.Rules.{rules}
 use Rattle.wire_numbers.proofs.Registers.{stands, nothing_past}
 use Rattle.wire_numbers.proofs.register_at.Goals as goal
 

@@ -1,7 +1,6 @@
 -- `register_number` meets its contract: each arm has one register, and gives its number. Assumes nothing.
 use mathlib.Core.Path.{sym, ap}
 use native.Mathlib.Omega.{arith}
-use borrow.Author.Rules.{rules}
 use Rattle.wire_numbers.specs.Numbers.{register_number}
 use Rattle.wire_numbers.proofs.register_number.Goals as goal
 

@@ -1,5 +1,4 @@
 -- `header_at` gives `header_at`: word by word, the first by its number. Assumes nothing.
-use borrow.Author.Rules.{rules}
 use Rattle.wire_records.proofs.header_at.Goals as goal
 
 pub returns : goal.returns

@@ -1,7 +1,6 @@
 -- `header_in` gives `header_in`. Assumes nothing.
 use borrow.Author.Tests.{lt-ltb, le-ltb}
 use Rattle.wire_records.specs.Words.{header_in}
-use borrow.Author.Rules.{rules}
 use Rattle.wire_records.proofs.header_in.Goals as goal
 
 pub returns-then-k-block : goal.returns-then-k-block

@@ -1,5 +1,4 @@
 -- `operand_words_at` gives `operand_words_at`: word by word. Assumes nothing.
-use borrow.Author.Rules.{rules}
 use Rattle.wire_records.proofs.operand_words_at.Goals as goal
 
 pub returns : goal.returns

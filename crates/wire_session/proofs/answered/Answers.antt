@@ -1,5 +1,4 @@
 -- `answered` keeps what the call left. Assumes nothing.
-use borrow.Author.Rules.{rules}
 use Rattle.wire_session.proofs.answered.Goals as goal
 
 pub returns : goal.returns

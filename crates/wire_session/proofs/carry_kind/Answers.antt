@@ -2,7 +2,6 @@
 use mathlib.Core.Path.{refl}
 use Rattle.wire_session.specs.CarriesOut.{Carries}
 use Rattle.wire_session.proofs.Carrying.{told_still, beside_left, no_call}
-use borrow.Author.Rules.{rules}
 use Rattle.wire_session.proofs.carry_kind.Goals as goal
 
 pub returns-in-Unknown : goal.returns-in-Unknown

@@ -5,7 +5,6 @@ use borrow.Author.Tests.{not-true, not-false}
 use Rattle.wire_records.specs.Blocks.{block_fits}
 use Rattle.wire_session.specs.CarriesOut.{CarriesOut}
 use Rattle.wire_session.proofs.Carrying.{no_call}
-use borrow.Author.Rules.{rules}
 use Rattle.wire_session.proofs.carry_out.Goals as goal
 
 pub returns-then-not-block_fits : goal.returns-then-not-block_fits

@@ -1,7 +1,6 @@
 -- `carry_show` leaves the machine and the count: each arm is a clause of `ShowCarried`. Assumes nothing.
 use mathlib.Core.Path.{refl}
 use Rattle.wire_session.specs.CarriesOut.{ShowCarried}
-use borrow.Author.Rules.{rules}
 use Rattle.wire_session.proofs.carry_show.Goals as goal
 
 pub returns-in-PageView : goal.returns-in-PageView

@@ -1,5 +1,4 @@
 -- `done` leaves the machine and the count, with the reply of `gave`. Assumes nothing.
-use borrow.Author.Rules.{rules}
 use Rattle.wire_session.proofs.done.Goals as goal
 
 pub returns : goal.returns

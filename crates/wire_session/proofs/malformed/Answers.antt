@@ -1,5 +1,4 @@
 -- `malformed` leaves the machine and the count, with the reply of `none`. Assumes nothing.
-use borrow.Author.Rules.{rules}
 use Rattle.wire_session.proofs.malformed.Goals as goal
 
 pub returns : goal.returns

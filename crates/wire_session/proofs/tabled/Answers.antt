@@ -2,7 +2,6 @@
 use mathlib.Core.Path.{sym}
 use Rattle.wire_session.specs.CarriesOut.{Called}
 use Rattle.wire_session.proofs.Carrying.{no_call, call_left}
-use borrow.Author.Rules.{rules}
 use Rattle.wire_session.proofs.tabled.Goals as goal
 
 pub returns-in-Malformed : goal.returns-in-Malformed

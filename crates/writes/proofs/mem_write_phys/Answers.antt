@@ -2,7 +2,6 @@
 -- `write_counted`.
 use mathlib.Core.Path.{sym, ◌∙◌}
 use native.Mathlib.Omega.{arith}
-use borrow.Author.Rules.{rules}
 use borrow.Author.Tests.{not-true, not-false}
 use Rattle.byte_runs.proofs.Puts.{put_copied}
 use Rattle.store.proofs.Read.{sound_facts, slot_held}

@@ -1,6 +1,5 @@
 -- `write_counted` owes `Stored`: nothing, or what `write_pages` writes, which asks for the room that was counted.
 use native.Mathlib.Omega.{arith}
-use borrow.Author.Rules.{rules}
 use Rattle.writes.proofs.Stores.{stored_full, stored_done}
 use Rattle.writes.proofs.write_counted.Goals as goal
 

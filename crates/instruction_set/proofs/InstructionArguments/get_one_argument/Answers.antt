@@ -1,5 +1,4 @@
 -- `instruction_set::InstructionArguments::get_one_argument` meets its contract: each way out is a clause of `one_of`. Assumes nothing.
-use borrow.Author.Rules.{rules}
 use Rattle.instruction_set.proofs.InstructionArguments.get_one_argument.Goals as goal
 
 pub returns-in_default : goal.returns-in_default

@@ -1,5 +1,4 @@
 -- `instruction_set::InstructionArguments::get_two_arguments` meets its contract: each way out is a clause of `two_of`. Assumes nothing.
-use borrow.Author.Rules.{rules}
 use Rattle.instruction_set.proofs.InstructionArguments.get_two_arguments.Goals as goal
 
 pub returns-in_default : goal.returns-in_default

@@ -2,7 +2,6 @@
 -- in the same order. Assumes nothing.
 use Rattle.instruction_set.specs.Arguments.{register_size_or}
 use mathlib.Core.Path.{◌∙◌, ap}
-use borrow.Author.Rules.{rules}
 use Rattle.instruction_set.proofs.InstructionArguments.size.Goals as goal
 
 pub returns-in-Present : goal.returns-in-Present

@@ -1,6 +1,5 @@
 -- `machine_state::Answered::with_value` meets its contract: refused it is the same, and otherwise it has the value. Assumes nothing.
 use Rattle.machine_state.proofs.Steps.{not_refused}
-use Rattle.std.proofs.Common.{rules}
 use borrow.Enum.Refused.{opened}
 use Rattle.machine_state.proofs.Answered.with_value.Goals as goal
 

@@ -1,5 +1,4 @@
 -- `machine_state::MachineState::base_value` meets its contract: an absent base is 0, a present one is read by the table. Assumes nothing.
-use Rattle.std.proofs.Common.{rules}
 use Rattle.machine_state.proofs.MachineState.base_value.Goals as goal
 
 pub returns-in-Present : goal.returns-in-Present

@@ -1,6 +1,6 @@
 -- `machine_state::calculate_effective_address` meets its contract: each case of the operand's parts is one of the
 -- definition's, and a sum that is cut at each step is the sum that is cut once. Assumes nothing.
-use Rattle.std.proofs.Common.{◌≡◌, ℕ, ◌+◌, ◌*◌, ◌%◌, ◌^◌, [], ◌∷◌, refl, ap, ◌∙◌, ⊎_elim, arith, w32, w64, of_z, rules}
+use Rattle.std.proofs.Common.{◌≡◌, ℕ, ◌+◌, ◌*◌, ◌%◌, ◌^◌, [], ◌∷◌, refl, ap, ◌∙◌, ⊎_elim, arith, w32, w64, of_z}
 use denote.Enum.Declared.{tag_of}
 use types.Run.{OneOf}
 use Rattle.utils.specs.Outcome.{gives, refuses}

@@ -1,5 +1,4 @@
 -- `compute_flags` meets its contract: rflags become what `fields::computed_flags` says, and all else stays. Assumes nothing.
-use Rattle.std.proofs.Common.{rules}
 use Rattle.machine_state.proofs.MachineState.compute_flags.Goals as goal
 
 pub returns : goal.returns

@@ -2,7 +2,7 @@
 -- reads. Assumes nothing.
 use Rattle.machine_state.specs.Machine.{read_reg}
 use Rattle.instruction_set.proofs.Bounds.{parent_below}
-use Rattle.std.proofs.Common.{arith, rules}
+use Rattle.std.proofs.Common.{arith}
 use Rattle.machine_state.proofs.MachineState.get_register_value.Goals as goal
 
 pub offset_bounds-self-parent : goal.offset_bounds-self-parent

@@ -1,7 +1,7 @@
 -- `machine_state::MachineState::get_value` meets its contract: each kind of operand is a clause of `read_operand`. Assumes nothing.
 use Rattle.machine_state.proofs.Steps.{read_address, address_refused}
 use Rattle.machine_state.specs.Memory.{read_operand}
-use Rattle.std.proofs.Common.{sym, rules}
+use Rattle.std.proofs.Common.{sym}
 use borrow.Enum.Refused.{opened}
 use Rattle.machine_state.proofs.MachineState.get_value.Goals as goal
 

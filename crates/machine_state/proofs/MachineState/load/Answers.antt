@@ -1,7 +1,7 @@
 -- `machine_state::MachineState::load` meets its contract: the bytes read, with zeros above them, make a word, and the
 -- value is that word at the size (Steps, `load_left`). Assumes nothing.
 use Rattle.fields.specs.Parts.{memory_value}
-use Rattle.std.proofs.Common.{replicate, sym, ap, ◌∙◌, arith, length-take-le, rules}
+use Rattle.std.proofs.Common.{replicate, sym, ap, ◌∙◌, arith, length-take-le}
 use Rattle.machine_state.proofs.Steps.{load_left}
 use Rattle.instruction_set.proofs.Bounds.{bytes_within}
 use Rattle.machine_state.proofs.MachineState.load.Goals as goal

@@ -1,7 +1,6 @@
 -- `machine_state::MachineState::mem_read` meets its contract: what mmu's read ensures, put into the machine's answer
 -- (Steps, `read_left`). Assumes nothing.
 use Rattle.machine_state.proofs.Steps.{read_left}
-use Rattle.std.proofs.Common.{rules}
 use Rattle.machine_state.proofs.MachineState.mem_read.Goals as goal
 
 pub returns : goal.returns

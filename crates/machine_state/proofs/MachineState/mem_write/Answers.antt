@@ -1,7 +1,6 @@
 -- `machine_state::MachineState::mem_write` meets its contract: what mmu's write ensures, put into the machine's answer
 -- (Steps, `write_left`). Assumes nothing.
 use Rattle.machine_state.proofs.Steps.{write_left}
-use Rattle.std.proofs.Common.{rules}
 use Rattle.machine_state.proofs.MachineState.mem_write.Goals as goal
 
 pub returns : goal.returns

@@ -1,5 +1,4 @@
 -- `machine_state::MachineState::set_flag` meets its contract: rflags is what `with_flag` ensures. Assumes nothing.
-use Rattle.std.proofs.Common.{rules}
 use Rattle.machine_state.proofs.MachineState.set_flag.Goals as goal
 
 pub returns : goal.returns

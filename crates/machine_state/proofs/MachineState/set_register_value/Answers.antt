@@ -3,7 +3,7 @@
 use Rattle.machine_state.specs.Machine.{changed, write_reg, event_of}
 use Rattle.instruction_set.proofs.Bounds.{parent_below}
 use Rattle.machine_state.proofs.Controls.{control_below, control_above}
-use Rattle.std.proofs.Common.{ap₂, arith, rules}
+use Rattle.std.proofs.Common.{ap₂, arith}
 use Rattle.machine_state.proofs.MachineState.set_register_value.Goals as goal
 
 pub offset_bounds-self-parent : goal.offset_bounds-self-parent

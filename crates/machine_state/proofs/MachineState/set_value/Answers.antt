@@ -1,7 +1,7 @@
 -- `machine_state::MachineState::set_value` meets its contract: each kind of operand is a clause of `write_operand`. Assumes nothing.
 use Rattle.machine_state.proofs.Steps.{write_address, address_refused}
 use Rattle.machine_state.specs.Memory.{write_operand}
-use Rattle.std.proofs.Common.{sym, rules}
+use Rattle.std.proofs.Common.{sym}
 use borrow.Enum.Refused.{opened}
 use Rattle.machine_state.proofs.MachineState.set_value.Goals as goal
 

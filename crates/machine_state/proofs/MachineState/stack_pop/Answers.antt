@@ -1,5 +1,5 @@
 -- `machine_state::MachineState::stack_pop` meets its contract: the load's contract, then rsp moved (Steps, `rsp_after`). Assumes nothing.
-use Rattle.std.proofs.Common.{◌+◌, ◌%◌, ◌^◌, [], get_or, ap, ◌∙◌, rules}
+use Rattle.std.proofs.Common.{◌+◌, ◌%◌, ◌^◌, [], get_or, ap, ◌∙◌}
 use Rattle.machine_state.specs.Memory.{rsp_if_accepted, popped}
 use Rattle.machine_state.proofs.Steps.{rsp_after}
 use Rattle.machine_state.proofs.MachineState.stack_pop.Goals as goal

@@ -1,7 +1,7 @@
 -- `machine_state::MachineState::stack_push` meets its contract: the write's contract, then rsp moved (Steps,
 -- `rsp_after`); the address is rsp less the length. Assumes nothing.
 use Rattle.store.specs.Store.{store_of}
-use Rattle.std.proofs.Common.{◌^◌, ◌<◌, ap, ◌∙◌, arith, rules}
+use Rattle.std.proofs.Common.{◌^◌, ◌<◌, ap, ◌∙◌, arith}
 use Rattle.machine_state.specs.Memory.{rsp_if_accepted, write_memory, pushed}
 use Rattle.machine_state.proofs.Steps.{rsp_after, below_is}
 use Rattle.machine_state.proofs.MachineState.stack_push.Goals as goal

@@ -2,7 +2,7 @@
 use Rattle.machine_state.proofs.Steps.{store_left}
 use Rattle.utils.specs.Bytes.{to_bytes}
 use Rattle.utils.proofs.Bytes.{length_to_bytes}
-use Rattle.std.proofs.Common.{sym, arith, length-take-le, rules}
+use Rattle.std.proofs.Common.{sym, arith, length-take-le}
 use Rattle.instruction_set.proofs.Bounds.{bytes_within}
 use Rattle.machine_state.proofs.MachineState.store.Goals as goal
 

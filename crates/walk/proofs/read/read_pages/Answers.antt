@@ -2,9 +2,7 @@
 use Rattle.byte_runs.specs.Runs.{filled}
 use Rattle.store.proofs.Parts.{part_of, reached_first, reached_next}
 use Rattle.walk.proofs.Turns.{read_step, read_end}
-use Rattle.store.specs.Store.{bytes_from, store_of}
-use Rattle.store.specs.Facts.{Reached}
-use Rattle.std.proofs.Common.{◌≡◌, ◌-◌, length, refl, ◌∙◌, arith, rules}
+use Rattle.std.proofs.Common.{◌≡◌, length, refl, ◌∙◌, arith}
 use Rattle.walk.proofs.read.read_pages.Goals as goal
 
 pub loop-done-init : goal.loop-done-init

@@ -1,10 +1,8 @@
 -- `read_pages` gives `read_at`: after each turn the first `done` bytes of out are those from p on (Turns.read_step).
 use Rattle.byte_runs.specs.Runs.{filled}
-use Rattle.store.proofs.Parts.{part_of, reached_first, reached_next}
-use Rattle.walk.proofs.Turns.{read_step, read_end}
 use Rattle.store.specs.Store.{bytes_from, store_of}
 use Rattle.store.specs.Facts.{Reached}
-use Rattle.std.proofs.Common.{◌≡◌, ◌-◌, length, refl, ◌∙◌, arith, rules}
+use Rattle.std.proofs.Common.{◌≡◌, ◌-◌, length}
 use Rattle.walk.proofs.read.read_pages.Given as goal
 
 abbrev pub invariant-loop-done : goal.invariant-loop-done

@@ -1,7 +1,7 @@
 -- `read_part` gives the bytes of memory: those of the slot found, or zeros.
 use Rattle.byte_runs.proofs.Puts.{put_was, put_copied, room_yes}
 use Rattle.store.proofs.Read.{slot_held, part_copied, part_cleared}
-use Rattle.std.proofs.Common.{sym, ◌∙◌, arith, rules}
+use Rattle.std.proofs.Common.{sym, ◌∙◌, arith}
 use Rattle.walk.proofs.read.read_part.Goals as goal
 
 -- a slot that is found lies within the bytes

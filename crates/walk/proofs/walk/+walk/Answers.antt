@@ -1,5 +1,5 @@
 -- `walk` gives `walked`, by recursion. Assumes nothing.
-use Rattle.std.proofs.Common.{ℕ, ◌-◌, ap, ◌∙◌, arith}
+use Rattle.std.proofs.Common.{ℕ, ◌-◌, ap, ◌∙◌}
 use Rattle.store.specs.Store.{store_of}
 use Rattle.walk.specs.Walk.{walked}
 use Rattle.walk.proofs.Walked.{walked_end, walked_step}

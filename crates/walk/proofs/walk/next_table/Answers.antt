@@ -1,6 +1,5 @@
 -- `next_table` gives `next_table`.
 use Rattle.walk.specs.Walk.{next_table}
-use Rattle.std.proofs.Common.{rules}
 use Rattle.walk.proofs.walk.next_table.Goals as goal
 
 pub returns : goal.returns

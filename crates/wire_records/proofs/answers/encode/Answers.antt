@@ -2,7 +2,6 @@
 use native.Mathlib.Omega.{arith}
 use Rattle.wire_records.specs.Answers.{encoded}
 use Rattle.byte_runs.proofs.Puts.{put_was, room_yes}
-use borrow.Author.Rules.{rules}
 use Rattle.wire_records.proofs.answers.encode.Goals as goal
 
 pub returns : goal.returns

@@ -1,7 +1,6 @@
 -- `operand_words` gives `operand_words`: each arm is a clause; a displacement keeps its value as it is widened. Assumes nothing.
 use mir.Syntax.{w32}
 use Rattle.utils.proofs.TwosComplement.{widened, through}
-use borrow.Author.Rules.{rules}
 use Rattle.wire_records.proofs.answers.operand_words.Goals as goal
 
 pub overflow_cast-displacement : goal.overflow_cast-displacement

@@ -1,5 +1,4 @@
 -- `part_number` gives `part_number`: each arm is a clause. Assumes nothing.
-use borrow.Author.Rules.{rules}
 use Rattle.wire_records.proofs.answers.part_number.Goals as goal
 
 pub returns-in-Present : goal.returns-in-Present

@@ -1,5 +1,4 @@
 -- `scale_number` gives `scale_number`: each arm is a clause. Assumes nothing.
-use borrow.Author.Rules.{rules}
 use Rattle.wire_records.proofs.answers.scale_number.Goals as goal
 
 pub returns-in-Present : goal.returns-in-Present

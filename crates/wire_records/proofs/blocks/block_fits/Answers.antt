@@ -1,6 +1,5 @@
 -- `block_fits` gives `block_fits`: the block of the kind, and its length. Assumes nothing.
 use mathlib.Core.Path.{sym}
-use borrow.Author.Rules.{rules}
 use Rattle.wire_records.specs.Blocks.{block_fits}
 use Rattle.wire_records.proofs.blocks.block_fits.Goals as goal
 

@@ -1,5 +1,4 @@
 -- `fits_for` gives `fits_for`, by the four arms. Assumes nothing.
-use borrow.Author.Rules.{rules}
 use Rattle.wire_records.proofs.blocks.fits_for.Goals as goal
 
 pub returns-in-Nothing : goal.returns-in-Nothing

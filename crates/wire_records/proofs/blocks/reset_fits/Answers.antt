@@ -1,12 +1,10 @@
 -- `reset_fits` tests the length backwards, so that no product is too large. Assumes nothing.
-use mathlib.Core.Bool.{false}
 use mathlib.Core.Path.{◌≡◌, sym, ◌∙◌}
 use Prim.Native.Nat.{ℕ, ◌+◌, ◌-◌, ◌*◌, ◌/◌, ◌%◌, ◌≤◌}
 use native.Mathlib.Decide.{ℕ_discrete}
 use native.Mathlib.Omega.{arith}
 use lib.Dec.{eqb}
 use borrow.Author.Tests.{eq-eqb, ne_eqb}
-use borrow.Author.Rules.{rules}
 use Rattle.wire_records.proofs.blocks.reset_fits.Goals as goal
 
 backwards : (n slots : ℕ) → 200 ≤ n → n % 8 ≡ 0 → eqb ((n - 200) / 8) slots ≡ eqb n (200 + 8 * slots)

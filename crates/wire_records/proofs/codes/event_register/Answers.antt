@@ -1,5 +1,4 @@
 -- `event_register` gives `event_register`: each arm is a clause. Assumes nothing.
-use borrow.Author.Rules.{rules}
 use Rattle.wire_records.proofs.codes.event_register.Goals as goal
 
 pub returns-in-Control : goal.returns-in-Control

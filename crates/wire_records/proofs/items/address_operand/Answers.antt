@@ -4,7 +4,6 @@ use mathlib.Core.Path.{sym}
 use mir.Syntax.{w32}
 use mir.ValLaws.{to_z-of_z}
 use Rattle.wire_records.specs.Decoded.{address_operand}
-use borrow.Author.Rules.{rules}
 use Rattle.wire_records.proofs.items.address_operand.Goals as goal
 
 pub returns-in_default : goal.returns-in_default

@@ -3,7 +3,6 @@ use mathlib.Core.Path.{◌≡◌, sym}
 use native.Mathlib.Omega.{arith}
 use Rattle.wire_records.specs.Decoded.{base_or_index_at}
 use Rattle.wire_records.proofs.Exact.{part_some}
-use borrow.Author.Rules.{rules}
 use Rattle.wire_records.proofs.items.base_or_index_at.Goals as goal
 
 pub returns-then-n-eq0 : goal.returns-then-n-eq0

@@ -1,6 +1,5 @@
 -- `build` gives every part as it was given. Assumes nothing.
 use Rattle.wire_records.proofs.Parts.{argument_or_lem, opcode_or_lem, size_or_lem}
-use borrow.Author.Rules.{rules}
 use Rattle.wire_records.proofs.items.build.Goals as goal
 
 pub returns : goal.returns

@@ -1,5 +1,4 @@
 -- `call_by` gives `call_by`: each arm is a clause. Assumes nothing.
-use borrow.Author.Rules.{rules}
 use Rattle.wire_records.proofs.items.call_by.Goals as goal
 
 pub returns-in-ReadOperand : goal.returns-in-ReadOperand

@@ -1,5 +1,4 @@
 -- `call_in` gives `call_in`: only a call's kind has one. Assumes nothing.
-use borrow.Author.Rules.{rules}
 use Rattle.wire_records.proofs.items.call_in.Goals as goal
 
 pub returns-in-Unknown : goal.returns-in-Unknown

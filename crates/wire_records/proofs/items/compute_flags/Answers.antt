@@ -1,7 +1,6 @@
 -- `compute_flags` gives `flag_call`: each way out is what is found of the size, and which form is asked for. Assumes nothing.
 use mathlib.Core.Path.{sym}
 use Rattle.wire_records.specs.Decoded.{flag_call}
-use borrow.Author.Rules.{rules}
 use Rattle.wire_records.proofs.items.compute_flags.Goals as goal
 
 pub returns-in_default : goal.returns-in_default

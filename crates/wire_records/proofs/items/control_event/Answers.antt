@@ -1,7 +1,6 @@
 -- `control_event` gives `control_event`: each way out is what is found of the register. Assumes nothing.
 use mathlib.Core.Path.{sym}
 use Rattle.wire_records.specs.Decoded.{control_event}
-use borrow.Author.Rules.{rules}
 use Rattle.wire_records.proofs.items.control_event.Goals as goal
 
 pub returns-in_default : goal.returns-in_default

@@ -2,7 +2,6 @@
 use mathlib.Core.Path.{sym}
 use borrow.Author.Tests.{lt-ltb, le-ltb}
 use Rattle.wire_records.specs.Decoded.{arguments_at}
-use borrow.Author.Rules.{rules}
 use Rattle.wire_records.proofs.items.decode_arguments.Goals as goal
 
 pub returns-then-equal-gt1 : goal.returns-then-equal-gt1

@@ -1,5 +1,4 @@
 -- `decode_call` gives `call_of`, by the header's kind. Assumes nothing.
-use borrow.Author.Rules.{rules}
 use Rattle.wire_records.specs.Decoded.{call_of}
 use Rattle.wire_records.proofs.items.decode_call.Goals as goal
 

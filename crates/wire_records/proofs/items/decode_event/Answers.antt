@@ -2,7 +2,6 @@
 use native.Mathlib.Omega.{arith}
 use Rattle.wire_records.proofs.Exact.{event_past}
 use Rattle.wire_records.specs.Decoded.{event_at}
-use borrow.Author.Rules.{rules}
 use Rattle.wire_records.proofs.items.decode_event.Goals as goal
 
 pub returns-in-0 : goal.returns-in-0

@@ -2,7 +2,6 @@
 use native.Mathlib.Omega.{arith}
 use Rattle.wire_records.proofs.Exact.{operand_past}
 use Rattle.wire_records.specs.Decoded.{operand_at}
-use borrow.Author.Rules.{rules}
 use Rattle.wire_records.proofs.items.decode_operand.Goals as goal
 
 pub returns-in-0 : goal.returns-in-0

@@ -6,7 +6,6 @@ use mir.Val.{of_z, to_z}
 use mir.ValLaws.{to_z-of_z, of_z-to_z}
 use Rattle.wire_records.specs.Decoded.{displacement_at}
 use Rattle.wire_records.proofs.Narrow.{narrow}
-use borrow.Author.Rules.{rules}
 use Rattle.wire_records.proofs.items.displacement.Goals as goal
 
 pub returns-then-value-ltminus2147483648 : goal.returns-then-value-ltminus2147483648

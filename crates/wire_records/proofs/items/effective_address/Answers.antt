@@ -1,7 +1,6 @@
 -- `effective_address` gives `address_call`: each way out is what is found of the operand. Assumes nothing.
 use mathlib.Core.Path.{sym}
 use Rattle.wire_records.specs.Decoded.{address_call}
-use borrow.Author.Rules.{rules}
 use Rattle.wire_records.proofs.items.effective_address.Goals as goal
 
 pub returns-in-Absent : goal.returns-in-Absent

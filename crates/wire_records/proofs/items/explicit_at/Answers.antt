@@ -3,7 +3,6 @@ use mathlib.Core.Path.{◌≡◌, sym}
 use native.Mathlib.Omega.{arith}
 use borrow.Author.Tests.{ne_eqb}
 use Rattle.wire_records.specs.Decoded.{explicit_at}
-use borrow.Author.Rules.{rules}
 use Rattle.wire_records.proofs.items.explicit_at.Goals as goal
 
 pub returns-then-n-eq4 : goal.returns-then-n-eq4

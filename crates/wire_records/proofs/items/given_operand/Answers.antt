@@ -1,7 +1,6 @@
 -- `given_operand` gives `given_at`: none where the operand is malformed. Assumes nothing.
 use mathlib.Core.Path.{sym}
 use Rattle.wire_records.specs.Decoded.{given_at}
-use borrow.Author.Rules.{rules}
 use Rattle.wire_records.proofs.items.given_operand.Goals as goal
 
 pub returns-in-Malformed : goal.returns-in-Malformed

@@ -5,7 +5,6 @@ use Rattle.wire_records.specs.Decoded.{opcode_at}
 use Rattle.wire_records.proofs.Exact.{byte_past, byte_named}
 use Rattle.instruction_set.specs.declared.SomeOpcode.TheVariants as opcode
 use Rattle.wire_records.specs.declared.items.DecodedOpcode.TheVariants as code
-use borrow.Author.Rules.{rules}
 use Rattle.wire_records.proofs.items.opcode_at.Goals as goal
 
 pub returns-then-n-eq0 : goal.returns-then-n-eq0

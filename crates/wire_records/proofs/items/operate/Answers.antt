@@ -1,7 +1,6 @@
 -- `operate` gives `operation_call`: each way out is what is found of the operation, then of the size. Assumes nothing.
 use mathlib.Core.Path.{sym}
 use Rattle.wire_records.specs.Decoded.{operation_call}
-use borrow.Author.Rules.{rules}
 use Rattle.wire_records.proofs.items.operate.Goals as goal
 
 pub returns-in_default : goal.returns-in_default

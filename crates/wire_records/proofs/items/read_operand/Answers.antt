@@ -1,7 +1,6 @@
 -- `read_operand` gives `read_call`: each way out is what is found of the operand, then of the size. Assumes nothing.
 use mathlib.Core.Path.{sym}
 use Rattle.wire_records.specs.Decoded.{read_call}
-use borrow.Author.Rules.{rules}
 use Rattle.wire_records.proofs.items.read_operand.Goals as goal
 
 pub returns-in_default : goal.returns-in_default

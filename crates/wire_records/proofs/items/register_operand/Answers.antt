@@ -1,7 +1,6 @@
 -- `register_operand` gives `register_operand`: each way out is what is found of the base. Assumes nothing.
 use mathlib.Core.Path.{sym}
 use Rattle.wire_records.specs.Decoded.{register_operand}
-use borrow.Author.Rules.{rules}
 use Rattle.wire_records.proofs.items.register_operand.Goals as goal
 
 pub returns-in_default : goal.returns-in_default

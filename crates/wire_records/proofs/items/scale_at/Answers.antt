@@ -5,7 +5,6 @@ use Rattle.wire_records.specs.Decoded.{scale_at}
 use Rattle.wire_records.proofs.Exact.{byte_past, byte_named}
 use Rattle.instruction_set.specs.declared.SomeScale.TheVariants as scale
 use Rattle.wire_records.specs.declared.items.DecodedScale.TheVariants as factor
-use borrow.Author.Rules.{rules}
 use Rattle.wire_records.proofs.items.scale_at.Goals as goal
 
 pub returns-then-n-eq0 : goal.returns-then-n-eq0

@@ -2,7 +2,6 @@
 use mathlib.Core.Path.{sym}
 use borrow.Author.Tests.{lt-ltb, le-ltb}
 use Rattle.wire_records.specs.Decoded.{set_call}
-use borrow.Author.Rules.{rules}
 use Rattle.wire_records.proofs.items.set_flag.Goals as goal
 
 pub returns-then-header-gt1 : goal.returns-then-header-gt1

@@ -1,7 +1,6 @@
 -- `test_flag` gives `test_call`: each way out is what is found of the flag. Assumes nothing.
 use mathlib.Core.Path.{sym}
 use Rattle.wire_records.specs.Decoded.{test_call}
-use borrow.Author.Rules.{rules}
 use Rattle.wire_records.proofs.items.test_flag.Goals as goal
 
 pub returns-in-Absent : goal.returns-in-Absent

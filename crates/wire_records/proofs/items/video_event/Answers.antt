@@ -1,7 +1,6 @@
 -- `video_event` gives `video_event`: the value is a byte. Assumes nothing.
 use borrow.Author.Tests.{lt-ltb, le-ltb}
 use Rattle.wire_records.specs.Decoded.{video_event}
-use borrow.Author.Rules.{rules}
 use Rattle.wire_records.proofs.items.video_event.Goals as goal
 
 pub returns-then-words-gt255 : goal.returns-then-words-gt255

@@ -1,5 +1,4 @@
 -- `with_second` gives the part, where there is one. Assumes nothing.
-use borrow.Author.Rules.{rules}
 use Rattle.wire_records.proofs.items.with_second.Goals as goal
 
 pub returns-in-Absent : goal.returns-in-Absent

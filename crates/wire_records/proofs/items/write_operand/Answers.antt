@@ -1,7 +1,6 @@
 -- `write_operand` gives `write_call`: each way out is what is found of the operand, then of the size. Assumes nothing.
 use mathlib.Core.Path.{sym}
 use Rattle.wire_records.specs.Decoded.{write_call}
-use borrow.Author.Rules.{rules}
 use Rattle.wire_records.proofs.items.write_operand.Goals as goal
 
 pub returns-in_default : goal.returns-in_default

@@ -3,7 +3,6 @@ use mathlib.Core.Path.{sym}
 use Prim.Native.Nat.{◌≤◌}
 use native.Mathlib.Omega.{arith}
 use lib.ListN.{get_or-eq_default}
-use borrow.Author.Rules.{rules}
 use Rattle.wire_records.specs.Kinds.{kinds, kind_at}
 use Rattle.wire_records.specs.declared.kinds.Kind.TheVariants.{Unknown}
 use Rattle.wire_records.proofs.kinds.kind_at.Goals as goal

@@ -2,7 +2,6 @@
 use mathlib.Core.Path.{refl, sym}
 use Rattle.wire_session.specs.Accesses.{Accesses}
 use Rattle.wire_session.proofs.Replying.{no_record}
-use borrow.Author.Rules.{rules}
 use Rattle.wire_session.proofs.access.access.Goals as goal
 
 pub returns-in_default : goal.returns-in_default

@@ -1,7 +1,6 @@
 -- `one` gives the five words of the operand, or the refusal. Assumes nothing.
 use mathlib.Core.Path.{refl}
 use Rattle.wire_session.proofs.Accessing.{one_given, refused_given}
-use borrow.Author.Rules.{rules}
 use Rattle.wire_session.proofs.access.one.Goals as goal
 
 pub returns-in-Argument : goal.returns-in-Argument

@@ -1,6 +1,5 @@
 -- `size` gives the number of the size, or the refusal. Assumes nothing.
 use Rattle.wire_session.proofs.Accessing.{sized, unsized}
-use borrow.Author.Rules.{rules}
 use Rattle.wire_session.proofs.access.size.Goals as goal
 
 pub returns-in-Selected : goal.returns-in-Selected

@@ -1,7 +1,6 @@
 -- `two` gives the ten words of the operands, or the refusal. Assumes nothing.
 use mathlib.Core.Path.{refl}
 use Rattle.wire_session.proofs.Accessing.{two_given, refused_given}
-use borrow.Author.Rules.{rules}
 use Rattle.wire_session.proofs.access.two.Goals as goal
 
 pub returns-in-Arguments : goal.returns-in-Arguments

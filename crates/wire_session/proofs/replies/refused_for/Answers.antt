@@ -3,7 +3,6 @@
 use mathlib.Core.List.{[], ◌∷◌}
 use mathlib.Core.Path.{sym, ap, ◌∙◌}
 use Prim.Native.Nat.{ℕ}
-use borrow.Author.Rules.{rules}
 use Rattle.utils.specs.Outcome.{Outcome, refuses, refuses_with}
 use Rattle.machine_state.specs.Answers.{Value, word}
 use Rattle.wire_session.specs.Replies.{reply_of}

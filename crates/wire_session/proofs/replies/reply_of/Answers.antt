@@ -3,7 +3,6 @@ use Rattle.machine_state.specs.declared.Answer.{Answer}
 use mathlib.Core.Path.{sym, ap, ◌∙◌}
 use Rattle.machine_state.specs.Answers.{outcome_of}
 use Rattle.wire_session.specs.Replies.{reply_of}
-use borrow.Author.Rules.{rules}
 use Rattle.wire_session.proofs.replies.reply_of.Goals as goal
 
 pub returns-in-Done : goal.returns-in-Done

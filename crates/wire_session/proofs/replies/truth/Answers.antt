@@ -1,6 +1,5 @@
 -- `truth` says yes or no as 1 or 0. Assumes nothing.
 use Rattle.wire_session.proofs.Replying.{bool_byte_lem}
-use borrow.Author.Rules.{rules}
 use Rattle.wire_session.proofs.replies.truth.Goals as goal
 
 pub returns : goal.returns

@@ -1,11 +1,7 @@
 -- `exposed_report` reports on the calls of the block's headers, if it holds nothing else: each turn lists one more. Assumes nothing.
-use Prim.Native.Nat.{◌≤◌, ◌-◌, ◌/◌}
-use Rattle.wire_session.proofs.Replying.{no_record}
-use Rattle.wire_session.proofs.Reporting.{listed_more, listed_none, too_many, broken, too_short, is_whole, report_reply, report_bytes}
-use borrow.Author.Rules.{rules}
-use native.Mathlib.Omega.{arith}
-use mathlib.Core.Path.{◌≡◌, refl, sym, ◌∙◌}
-use Rattle.wire_session.specs.Reports.{calls, calls_listed, Reports}
+use Prim.Native.Nat.{◌≤◌, ◌-◌}
+use mathlib.Core.Path.{◌≡◌}
+use Rattle.wire_session.specs.Reports.{calls, calls_listed}
 use Rattle.wire_session.proofs.report.exposed_report.Given as goal
 
 abbrev pub invariant-loop-k : goal.invariant-loop-k

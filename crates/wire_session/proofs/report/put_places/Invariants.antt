@@ -1,12 +1,9 @@
 -- `put_places` gives a byte for each place: one place more with each turn. Assumes nothing.
-use Rattle.wire_session.proofs.Reporting.{place_more}
-use borrow.Author.Rules.{rules}
-use native.Mathlib.Omega.{arith}
-use mathlib.Core.Path.{◌≡◌, refl, ap, ◌∙◌}
+use mathlib.Core.Path.{◌≡◌}
 use Rattle.wire_session.specs.Reports.{place_byte}
 use Rattle.byte_runs.specs.Runs.{filled}
-use lib.ListN.{length, length-set}
-use Prim.Native.Nat.{ℕ, ◌≤◌, ◌-◌}
+use lib.ListN.{length}
+use Prim.Native.Nat.{◌≤◌, ◌-◌}
 use Rattle.wire_session.proofs.report.put_places.Given as goal
 
 abbrev pub invariant-loop-k : goal.invariant-loop-k

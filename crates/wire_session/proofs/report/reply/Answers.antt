@@ -4,7 +4,6 @@ use Rattle.exposed.specs.Reported.{verdict_outcome}
 use Rattle.exposed.specs.declared.Verdict.{Verdict}
 use mathlib.Core.Path.{sym, ap, ◌∙◌}
 use Rattle.wire_session.specs.Replies.{reply_of}
-use borrow.Author.Rules.{rules}
 use Rattle.wire_session.proofs.report.reply.Goals as goal
 
 pub returns-in-Listed : goal.returns-in-Listed

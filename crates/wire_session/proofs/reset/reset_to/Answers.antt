@@ -2,7 +2,6 @@
 use mathlib.Core.Path.{refl, sym, ◌∙◌}
 use borrow.Author.Tests.{not-true, not-false}
 use Rattle.wire_session.proofs.Starting.{few_bytes, other_length, few_slots, started}
-use borrow.Author.Rules.{rules}
 use Rattle.wire_session.proofs.reset.reset_to.Goals as goal
 
 pub returns-then-bytes-length : goal.returns-then-bytes-length

@@ -1,6 +1,5 @@
 -- `load` puts the lent bytes into the store's. Assumes nothing.
 use Rattle.wire_session.proofs.Replying.{given_none, given_done}
-use borrow.Author.Rules.{rules}
 use Rattle.wire_session.proofs.show.load.Goals as goal
 
 pub returns-then-not-copy : goal.returns-then-not-copy

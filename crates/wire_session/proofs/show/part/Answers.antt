@@ -1,6 +1,5 @@
 -- `part` gives a run of bytes. Assumes nothing.
 use Rattle.wire_session.proofs.Replying.{given_none, given_done}
-use borrow.Author.Rules.{rules}
 use Rattle.wire_session.proofs.show.part.Goals as goal
 
 pub returns-then-not-copy : goal.returns-then-not-copy

@@ -1,6 +1,5 @@
 -- `put_last` changes the last byte of a page, if it has one. Assumes nothing.
 use Rattle.wire_session.proofs.Showing.{last_set, none_set}
-use borrow.Author.Rules.{rules}
 use Rattle.wire_session.proofs.show.put_last.Goals as goal
 
 pub returns-then-z-gt0 : goal.returns-then-z-gt0

@@ -1,7 +1,6 @@
 -- `shown` gives a part of a view, or refusal 4 if it is empty. Assumes nothing.
 use mathlib.Core.Path.{refl}
 use Rattle.wire_session.proofs.Showing.{view_empty, view_some}
-use borrow.Author.Rules.{rules}
 use Rattle.wire_session.proofs.show.shown.Goals as goal
 
 pub returns-then-view-eq0 : goal.returns-then-view-eq0

@@ -2,7 +2,6 @@
 use borrow.Author.Tests.{lt-ltb, le-ltb}
 use Rattle.wire_session.proofs.Replying.{no_record}
 use Rattle.wire_session.proofs.Showing.{take_zeros}
-use borrow.Author.Rules.{rules}
 use Rattle.wire_session.proofs.show.view.Goals as goal
 
 pub returns-then-z-gt4097 : goal.returns-then-z-gt4097

@@ -1,7 +1,6 @@
 -- `view_with` gives a part of what the store shows. Assumes nothing.
 use mathlib.Core.Path.{sym}
 use lib.Seq.{length-take-le}
-use borrow.Author.Rules.{rules}
 use Rattle.wire_session.proofs.show.view_with.Goals as goal
 
 pub slice_bounds-page_view-end : goal.slice_bounds-page_view-end

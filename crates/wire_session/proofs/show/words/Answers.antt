@@ -1,6 +1,5 @@
 -- `words` gives words as bytes. Assumes nothing.
 use Rattle.wire_session.proofs.Replying.{given_none, given_done}
-use borrow.Author.Rules.{rules}
 use Rattle.wire_session.proofs.show.words.Goals as goal
 
 pub returns-then-not-put_words : goal.returns-then-not-put_words

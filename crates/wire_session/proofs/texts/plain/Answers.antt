@@ -2,7 +2,6 @@
 use mathlib.Core.Path.{sym}
 use Rattle.wire_session.specs.Texts.{plain_asked}
 use Rattle.wire_session.proofs.Replying.{texted, no_record}
-use borrow.Author.Rules.{rules}
 use Rattle.wire_session.proofs.texts.plain.Goals as goal
 
 pub returns-in-Absent : goal.returns-in-Absent

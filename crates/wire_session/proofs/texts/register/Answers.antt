@@ -2,7 +2,6 @@
 use mathlib.Core.Path.{sym}
 use Rattle.wire_session.specs.Texts.{register_asked}
 use Rattle.wire_session.proofs.Replying.{texted, no_record}
-use borrow.Author.Rules.{rules}
 use Rattle.wire_session.proofs.texts.register.Goals as goal
 
 pub returns-in_default : goal.returns-in_default

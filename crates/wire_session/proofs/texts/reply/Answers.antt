@@ -4,7 +4,6 @@ use Rattle.text.specs.Answers.{text_outcome}
 use Rattle.text.specs.declared.Text.{Text}
 use mathlib.Core.Path.{sym, ap, ◌∙◌}
 use Rattle.wire_session.specs.Replies.{reply_of}
-use borrow.Author.Rules.{rules}
 use Rattle.wire_session.proofs.texts.reply.Goals as goal
 
 pub returns-in-Length : goal.returns-in-Length

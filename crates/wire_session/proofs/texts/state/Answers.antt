@@ -1,6 +1,5 @@
 -- `state` says the state's text. Assumes nothing.
 use Rattle.wire_session.proofs.Replying.{texted}
-use borrow.Author.Rules.{rules}
 use Rattle.wire_session.proofs.texts.state.Goals as goal
 
 pub returns : goal.returns

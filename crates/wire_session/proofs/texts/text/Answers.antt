@@ -1,5 +1,4 @@
 -- `text` says the text that is asked for: each arm is a clause of `asked`. Assumes nothing.
-use borrow.Author.Rules.{rules}
 use Rattle.wire_session.proofs.texts.text.Goals as goal
 
 pub returns-in-OperandText : goal.returns-in-OperandText

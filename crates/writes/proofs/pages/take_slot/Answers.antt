@@ -1,7 +1,6 @@
 -- `take_slot` gives `slot_taken`: one store into the directory, and a page of zeros.
 use native.Mathlib.Numerals.{add-one}
 use native.Mathlib.Omega.{arith}
-use borrow.Author.Rules.{rules}
 use Rattle.byte_runs.proofs.Puts.{put_was, room_yes}
 use Rattle.writes.proofs.pages.take_slot.Goals as goal
 

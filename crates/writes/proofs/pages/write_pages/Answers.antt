@@ -1,15 +1,13 @@
 -- `write_pages` gives `written`: after each turn the store is that of the first `done` bytes (Turns.write_step), and
 -- there is room for the next part (Turns.ready-part).
 use Rattle.store.proofs.Parts.{part_of, reached_first, reached_next}
-use Rattle.store.specs.Facts.{Reached}
 use Rattle.writes.specs.Writes.{byte_of}
 use Rattle.writes.proofs.Turns.{ready_part, write_step}
 use Rattle.store.specs.Store.{store_of, written}
 use lib.ListN.{length}
 use native.Mathlib.Omega.{arith}
-use borrow.Author.Rules.{rules}
 use mathlib.Core.Path.{◌≡◌, refl, ap, ◌∙◌}
-use Prim.Native.Nat.{◌-◌, ℕ}
+use Prim.Native.Nat.{ℕ}
 use Rattle.writes.proofs.pages.write_pages.Goals as goal
 
 pub loop-done-init : goal.loop-done-init

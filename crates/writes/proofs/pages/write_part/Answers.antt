@@ -7,7 +7,6 @@ use Rattle.store.proofs.Read.{slot_held}
 use Rattle.store.specs.Store.{store_of}
 use native.Mathlib.Omega.{arith}
 use mathlib.Core.Path.{sym, ◌∙◌}
-use borrow.Author.Rules.{rules}
 use Rattle.writes.proofs.pages.write_part.Goals as goal
 
 -- a slot that is found lies within the bytes
