@@ -1,4 +1,4 @@
-/* A host in C that keeps one machine and lends it: crates/host, linked from target/staticlib/libhost.a, which `rt staticlib host` writes. */
+/* A host in C that keeps one machine and lends it: crates/host, linked from crates/host/out/libhost.a, which `rt lib` there writes. */
 #ifndef RUONASVEL_H
 #define RUONASVEL_H
 

@@ -1,8 +1,8 @@
 # shellcheck shell=sh
 # tools/kit.sh: where the Rattle kit stands, and how what it builds is run. The scripts of this folder source it; it ends them with status 2 where there
 # is no kit. It sets
-#   chain      the kit's folder of compiler, linker and C library, as this processor has them
-#   emulator   what runs programs for x86-64 here: the kit's emulator, or nothing where the processor runs them itself
+#   chain      the kit's folder of compiler, linker and C library
+#   emulator   what runs programs for x86-64 here: the kit's emulator, or nothing where it has none, and the processor runs them itself
 # and defines `exec_x86 PROGRAM [WORDS..]`, by which the shell becomes that program, with the kit's C library. Run by itself, it prints chain and
 # emulator, a line each: that is for the scripts in Python.
 if ! command -v rt >/dev/null; then
@@ -10,9 +10,9 @@ if ! command -v rt >/dev/null; then
     exit 2
 fi
 kit=${RATTLE_HOME:-$(dirname "$(dirname "$(readlink -f "$(command -v rt)")")")}
-chain=$kit/on/$(uname -m)/toolchain
+chain=$kit/toolchain
 if [ ! -d "$chain" ]; then
-    echo "the Rattle kit at $kit has nothing for this processor, $(uname -m): README.md says what is needed" >&2
+    echo "the Rattle kit at $kit has no folder toolchain: README.md says what is needed" >&2
     exit 2
 fi
 emulator=$chain/bin/qemu-x86_64

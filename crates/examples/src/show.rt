@@ -1,64 +1,63 @@
 // What the examples print with.
-use libc::STDOUT_FILENO;
 use machine_state::{Answer, Answered, Refusal};
+use std::io;
 
 // Text on standard output, as it stands.
-pub(crate) fn label(text: &[u8]) {
-    io::write_all(STDOUT_FILENO, text);
+pub(crate) fn label(rt: &impl Print, text: &str) -> io::Result<()> {
+    rt.print(text)
 }
 
 // A word by its signed reading, after its label.
-pub(crate) fn show(text: &[u8], word: u64) {
-    label(text);
+pub(crate) fn show(rt: &impl Print, text: &str, word: u64) -> io::Result<()> {
+    label(rt, text)?;
     if word < 0x8000_0000_0000_0000 {
-        io::print_decimal(STDOUT_FILENO, word);
-        return;
+        return rt.print(word);
     }
-    label(b"-");
-    io::print_decimal(STDOUT_FILENO, std::num::wrapping_sub_u64(0, word));
+    label(rt, "-")?;
+    rt.print(std::num::wrapping_sub_u64(0, word))
 }
 
 // A flag, after its label.
-pub(crate) fn show_flag(text: &[u8], set: bool) {
-    label(text);
+pub(crate) fn show_flag(rt: &impl Print, text: &str, set: bool) -> io::Result<()> {
+    label(rt, text)?;
     if set {
-        label(b"set");
-        return;
+        return label(rt, "set");
     }
-    label(b"clear");
+    label(rt, "clear")
 }
 
 // A refusal by its number; 6 says how many slots lack (RULES 7.5).
-fn show_refusal(why: Refusal) {
-    show(b"refusal ", why.number());
+fn show_refusal(rt: &impl Print, why: Refusal) -> io::Result<()> {
+    show(rt, "refusal ", why.number())?;
     let lacking = why.lacking() as u64;
     if lacking == 1 {
-        label(b", 1 slot lacks");
+        label(rt, ", 1 slot lacks")?;
     }
     if 1 < lacking {
-        show(b", ", lacking);
-        label(b" slots lack");
+        show(rt, ", ", lacking)?;
+        label(rt, " slots lack")?;
     }
+    Ok(())
 }
 
 // What a call answers, after its label.
-pub(crate) fn show_answer(text: &[u8], answered: Answered) {
+pub(crate) fn show_answer(rt: &impl Print, text: &str, answered: Answered) -> io::Result<()> {
     let answer = answered.answer;
     match answer {
         Answer::Done => {
-            label(text);
-            label(b"accepted");
+            label(rt, text)?;
+            label(rt, "accepted")
         }
-        Answer::Value(value) => show(text, value),
-        Answer::Truth(yes) => show_flag(text, yes),
+        Answer::Value(value) => show(rt, text, value),
+        Answer::Truth(yes) => show_flag(rt, text, yes),
         Answer::Refused(why) => {
-            label(text);
-            show_refusal(why);
+            label(rt, text)?;
+            show_refusal(rt, why)
         }
     }
 }
 
 // Ends the line.
-pub(crate) fn end() {
-    label(b"\n");
+pub(crate) fn end(rt: &impl Print) -> io::Result<()> {
+    label(rt, "\n")
 }

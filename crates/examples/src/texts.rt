@@ -4,25 +4,24 @@ use instruction_set::{
     ArgumentSize, InstructionArgument, InstructionArgumentsBuilder, Register, SomeRegister,
     SomeScale,
 };
-use libc::STDOUT_FILENO;
 use machine_state::Event;
+use std::io;
 use text::Text;
 
-fn print(said: Text, out: &[u8]) {
+fn print(rt: &impl Print, said: Text, out: &[u8]) -> io::Result<()> {
     let Text::Length(n) = said else {
-        label(b"refused\n");
-        return;
+        return label(rt, "refused\n");
     };
     if n <= out.len() {
-        io::write_all(STDOUT_FILENO, &out[..n]);
+        rt.write_all(&out[..n])?;
     }
-    label(b"\n");
+    label(rt, "\n")
 }
 
-fn operand(argument: InstructionArgument, size: ArgumentSize) {
+fn operand(rt: &impl Print, argument: InstructionArgument, size: ArgumentSize) -> io::Result<()> {
     let mut out = [0u8; 28];
     let said = text::format(argument, size, &mut out);
-    print(said, &out);
+    print(rt, said, &out)
 }
 
 fn longest(displacement: i32) -> InstructionArgument {
@@ -35,7 +34,7 @@ fn longest(displacement: i32) -> InstructionArgument {
 }
 
 // The longest text of two operands, 57 bytes, into a buffer that just holds it, and into one that does not.
-fn two() {
+fn two(rt: &impl Print) -> io::Result<()> {
     let arguments = InstructionArgumentsBuilder::new()
         .first_argument(longest(-0x8000_0000))
         .second_argument(longest(-0x7FFF_FFFF))
@@ -43,20 +42,20 @@ fn two() {
         .finalize();
     let mut out = [0u8; 57];
     let said = text::arguments_text(arguments, &mut out);
-    print(said, &out);
+    print(rt, said, &out)?;
     let mut short = [0u8; 56];
     let refused = text::arguments_text(arguments, &mut short);
-    print(refused, &short);
+    print(rt, refused, &short)
 }
 
-fn event(event: Event) {
+fn event(rt: &impl Print, event: Event) -> io::Result<()> {
     let mut out = [0u8; 21];
     let said = text::event_text(event, &mut out);
-    print(said, &out);
+    print(rt, said, &out)
 }
 
 // All the examples of this file, in order.
-pub(crate) fn all() {
+pub(crate) fn all(rt: &impl Print) -> io::Result<()> {
     let rbp = SomeRegister::Present(Register::RBP);
     let rcx = SomeRegister::Present(Register::RCX);
     let none = SomeRegister::Absent;
@@ -66,31 +65,35 @@ pub(crate) fn all() {
         scale: SomeScale::Absent,
         displacement: -8,
     };
-    operand(local, ArgumentSize::Bit64);
+    operand(rt, local, ArgumentSize::Bit64)?;
     operand(
+        rt,
         InstructionArgument::Immediate {
             immediate: 0xFFFF_FFFF_FFFF_FFFF,
         },
         ArgumentSize::Bit8,
-    );
+    )?;
     let scaled = InstructionArgument::EffectiveAddress {
         base: none,
         index: rcx,
         scale: SomeScale::Present(8),
         displacement: 0,
     };
-    operand(scaled, ArgumentSize::Bit64);
+    operand(rt, scaled, ArgumentSize::Bit64)?;
     let lowest = InstructionArgument::EffectiveAddress {
         base: none,
         index: none,
         scale: SomeScale::Absent,
         displacement: -0x8000_0000,
     };
-    operand(lowest, ArgumentSize::Bit64);
-    two();
-    event(Event::Control {
-        register: Register::CR8,
-        value: 0xFFFF_FFFF_FFFF_FFFF,
-    });
-    event(Event::Video { byte: 0xE9 });
+    operand(rt, lowest, ArgumentSize::Bit64)?;
+    two(rt)?;
+    event(
+        rt,
+        Event::Control {
+            register: Register::CR8,
+            value: 0xFFFF_FFFF_FFFF_FFFF,
+        },
+    )?;
+    event(rt, Event::Video { byte: 0xE9 })
 }

@@ -4,12 +4,15 @@
 // microseconds of processor time that it took to standard error. oracle/src/pace.rs does the same over the Rust, and tools/pace runs
 // both. The crate stands on the machine, its texts and the report; it carries no rule, and docs/SPEED.md has what it measures.
 #![tactic(auto)]
-use libc::{STDERR_FILENO, STDOUT_FILENO};
 
 mod memory; // memory.rt
 mod registers; // registers.rt
 mod report; // report.rt
 mod texts; // texts.rt
+
+use std::env::{Env, FillError};
+use std::io;
+use std::time::CpuClock;
 
 const ROWS: u64 = 21;
 
@@ -46,34 +49,34 @@ fn with_digit(n: u64, digit: u64) -> u64 {
     n * 10 + (digit - 48)
 }
 
-fn name(row: u64) -> bool {
+fn name(rt: &impl Print, row: u64) -> io::Result<()> {
     match row {
-        0 => say(b"read 8 bytes, 1 page"),
-        1 => say(b"read 8 bytes, 16 pages"),
-        2 => say(b"read 8 bytes, 512 pages"),
-        3 => say(b"read 8 bytes, walk of 3 levels"),
-        4 => say(b"write 8 bytes, 1 page"),
-        5 => say(b"write 8 bytes, 16 pages"),
-        6 => say(b"write 8 bytes, 512 pages"),
-        7 => say(b"push and pop"),
-        8 => say(b"get a register, name known"),
-        9 => say(b"get a register, any name"),
-        10 => say(b"set a register, name known"),
-        11 => say(b"set a register, any name"),
-        12 => say(b"flags: compute, set, test"),
-        13 => say(b"sized flags, any size"),
-        14 => say(b"arithmetic: add, adc, sub, sbb, cmp"),
-        15 => say(b"effective address"),
-        16 => say(b"operand text"),
-        17 => say(b"operand text read back"),
-        18 => say(b"state text"),
-        19 => say(b"exposed report of 64 calls"),
-        _ => say(b"dependent or not, two calls"),
+        0 => say(rt, "read 8 bytes, 1 page"),
+        1 => say(rt, "read 8 bytes, 16 pages"),
+        2 => say(rt, "read 8 bytes, 512 pages"),
+        3 => say(rt, "read 8 bytes, walk of 3 levels"),
+        4 => say(rt, "write 8 bytes, 1 page"),
+        5 => say(rt, "write 8 bytes, 16 pages"),
+        6 => say(rt, "write 8 bytes, 512 pages"),
+        7 => say(rt, "push and pop"),
+        8 => say(rt, "get a register, name known"),
+        9 => say(rt, "get a register, any name"),
+        10 => say(rt, "set a register, name known"),
+        11 => say(rt, "set a register, any name"),
+        12 => say(rt, "flags: compute, set, test"),
+        13 => say(rt, "sized flags, any size"),
+        14 => say(rt, "arithmetic: add, adc, sub, sbb, cmp"),
+        15 => say(rt, "effective address"),
+        16 => say(rt, "operand text"),
+        17 => say(rt, "operand text read back"),
+        18 => say(rt, "state text"),
+        19 => say(rt, "exposed report of 64 calls"),
+        _ => say(rt, "dependent or not, two calls"),
     }
 }
 
-fn say(text: &[u8]) -> bool {
-    io::write_all(STDOUT_FILENO, text)
+fn say(rt: &impl Print, text: &str) -> io::Result<()> {
+    rt.print(text)
 }
 
 fn run(row: u64, turns: u64, dir: &mut [u64], bytes: &mut [u8]) -> u64 {
@@ -93,52 +96,69 @@ fn run(row: u64, turns: u64, dir: &mut [u64], bytes: &mut [u8]) -> u64 {
 }
 
 // Runs a row, and says its name and sum.
-fn show(row: u64, turns: u64, dir: &mut [u64], bytes: &mut [u8]) {
+fn show(
+    rt: &impl Print,
+    row: u64,
+    turns: u64,
+    dir: &mut [u64],
+    bytes: &mut [u8],
+) -> io::Result<()> {
     let sum = run(row, turns, dir, bytes);
-    name(row);
-    say(b": ");
-    io::print_hex(STDOUT_FILENO, sum, 16);
-    say(b"\n");
+    name(rt, row)?;
+    println!(rt; ": {sum:016x}")
 }
 
-fn show_all(turns: u64, dir: &mut [u64], bytes: &mut [u8]) {
+fn show_all(rt: &impl Print, turns: u64, dir: &mut [u64], bytes: &mut [u8]) -> io::Result<()> {
     let mut row: u64 = 0;
     while row < ROWS {
-        show(row, turns, dir, bytes);
+        show(rt, row, turns, dir, bytes)?;
         row += 1;
     }
+    Ok(())
 }
 
 // The processor's time since the program began, in microseconds.
-fn micros() -> u64 {
-    utils::word_of(libc::clock())
+fn micros(rt: &impl CpuClock) -> io::Result<u128> {
+    Ok(rt.process_cpu_time()?.as_micros())
 }
 
-fn show_timed(row: u64, turns: u64, dir: &mut [u64], bytes: &mut [u8]) {
-    let began = micros();
-    show(row, turns, dir, bytes);
-    let ended = micros();
-    io::print_decimal(STDERR_FILENO, std::num::wrapping_sub_u64(ended, began));
-    io::write_all(STDERR_FILENO, b"\n");
+fn show_timed(
+    rt: &(impl Print + Eprint + CpuClock),
+    row: u64,
+    turns: u64,
+    dir: &mut [u64],
+    bytes: &mut [u8],
+) -> io::Result<()> {
+    let began = micros(rt)?;
+    show(rt, row, turns, dir, bytes)?;
+    let ended = micros(rt)?;
+    eprintln!(rt; "{}", ended.saturating_sub(began))
 }
 
-fn argument(i: usize) -> u64 {
-    let mut word = io::buffer();
-    let n = os::arg(i, &mut word);
-    decimal(&word[..n])
+// The number that an argument spells, 0 where it is longer than the buffer; none where there is no such argument.
+fn argument(rt: &impl Env, i: usize) -> Option<u64> {
+    let mut word = [0u8; 4096];
+    match rt.arg(i, &mut word) {
+        Ok(n) => Some(decimal(&word[..n])),
+        Err(FillError::TooLong) => Some(0),
+        Err(FillError::NotPresent) => None,
+    }
 }
 
 // Takes the arrays as arrays: their length is then known by their type.
-fn lent(dir: &mut [u64; 512], bytes: &mut [u8; 2097152]) {
-    if os::arg_count() < 3 {
-        show_all(100, dir, bytes);
-        return;
-    }
-    show_timed(argument(1), argument(2), dir, bytes);
+fn lent(
+    rt: &(impl Print + Eprint + CpuClock + Env),
+    dir: &mut [u64; 512],
+    bytes: &mut [u8; 2097152],
+) -> io::Result<()> {
+    let (Some(row), Some(turns)) = (argument(rt, 1), argument(rt, 2)) else {
+        return show_all(rt, 100, dir, bytes);
+    };
+    show_timed(rt, row, turns, dir, bytes)
 }
 
-fn main() {
+fn main(rt: HostRuntime) -> io::Result<()> {
     let mut dir = [0u64; 512];
     let mut bytes = [0u8; 2097152];
-    lent(&mut dir, &mut bytes);
+    lent(&rt, &mut dir, &mut bytes)
 }

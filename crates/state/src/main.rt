@@ -2,20 +2,22 @@
 // the end. It stands on text and machine_state and does nothing itself; `rt` compares what it writes with the file stdout beside this
 // folder.
 #![tactic(auto)]
+
 use instruction_set::Register;
-use libc::{STDERR_FILENO, STDOUT_FILENO};
 use machine_state::MachineState;
+use std::io;
 use text::Text;
 
 const MINUS_ONE: u64 = 0xFFFF_FFFF_FFFF_FFFF;
 
-fn print(out: &[u8], n: usize) {
+fn print(rt: &impl Print, out: &[u8], n: usize) -> io::Result<()> {
     if n <= out.len() {
-        io::write_all(STDOUT_FILENO, &out[..n]);
+        rt.write_all(&out[..n])?;
     }
+    Ok(())
 }
 
-fn main() {
+fn main(rt: HostRuntime) -> io::Result<()> {
     let whole = MachineState::new()
         .set_register_value(Register::RAX, MINUS_ONE)
         .machine;
@@ -27,11 +29,7 @@ fn main() {
     let mut out = [0u8; 577];
     let said = text::state_text(pushed.machine, &mut out);
     let Text::Length(n) = said else {
-        io::write_all(
-            STDERR_FILENO,
-            b"the state's text is longer than 577 bytes\n",
-        );
-        return;
+        return eprintln!(rt; "the state's text is longer than 577 bytes");
     };
-    print(&out, n);
+    print(&rt, &out, n)
 }
