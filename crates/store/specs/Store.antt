@@ -50,7 +50,7 @@ abbrev pub byte_in : List ℕ → Found → ℕ → ℕ
 byte_in b (At i) o = get_or b (page_size * i + o) 0
 byte_in b Nothing o = 0
 
--- the byte at physical q, which is byte q % pageSize of page q / pageSize (RULES 3.6)
+-- the byte at physical q, which is byte q % page_size of page q / page_size (RULES 3.6)
 unfoldable pub byte_at : Store → ℕ → ℕ
 byte_at s q = byte_in s.bytes (found_in (pages_in_use s) (q / page_size)) (q % page_size)
 
