@@ -1,4 +1,4 @@
-/* A host in C that keeps one machine and lends it: crates/host, linked from crates/host/out/libhost.a, which `rt lib` there writes. */
+/* A host in C that keeps one machine and lends it: crates/host, linked from target/staticlib/libhost.a, which tools/link writes of crates/host_c. */
 #ifndef RUONASVEL_H
 #define RUONASVEL_H
 

@@ -1,10 +1,9 @@
 // A host keeps one machine and lends it: a flag is set in the machine behind a reference, through the by-value call of machine_state,
 // from Rattle (`set_flag`) or from C and Rust (`ruonasvel_set_flag`); and, from C and Rust, two values are added, subtracted or compared
 // with its rflags (`ruonasvel_arithmetic`), the flags of a result are computed at its size (`ruonasvel_compute_sized_flags`), or bytes
-// are written to a lent store, which grows by as many slots as the answer says that lack (`ruonasvel_mem_write`). Those for C are
-// declared in host/ruonasvel.h. Below are instruction_set and machine_state, arithmetic, which has the operations, fields, which has the
-// flags of a result, `wire_numbers`, which names operations and sizes, and mmu, which writes memory; above is only the host. tools/link links
-// this crate to programs in C.
+// are written to a lent store, which grows by as many slots as the answer says that lack (`ruonasvel_mem_write`). Below are instruction_set
+// and machine_state, arithmetic, which has the operations, fields, which has the flags of a result, `wire_numbers`, which names operations
+// and sizes, and mmu, which writes memory; above is `host_c`, by which C and Rust have these calls under the same names.
 // It carries RULES 9.8; what the calls do is RULES 2.9, 2.11, 2.12 to 2.14 and 4.1, and the numbers of flags are those of 2.8.
 #![tactic(auto)]
 
@@ -34,8 +33,7 @@ pub fn set_flag(m: &mut MachineState, flag: Flags, value: bool)
 }
 
 // Sets a flag by its number (RULES 2.8): 0 clears, any other value sets. Answers false, and changes nothing, where none has it.
-#[unsafe(no_mangle)]
-pub extern "C" fn ruonasvel_set_flag(m: &mut MachineState, flag: u64, value: u64) -> bool
+pub fn ruonasvel_set_flag(m: &mut MachineState, flag: u64, value: u64) -> bool
     ensures { (m.new ≡ set_numbered m.old (flag_at flag) (is_set value)) × (result ≡ names_flag (flag_at flag)) }
 {
     let tried = set_numbered(*m, flag, value);
@@ -78,8 +76,7 @@ pub struct ArithmeticAnswer {
 }
 
 // Adds, subtracts or compares on a machine lent as its 25 words (RULES 2.12 to 2.14). Where a number names nothing, no word changes.
-#[unsafe(no_mangle)]
-pub extern "C" fn ruonasvel_arithmetic(
+pub fn ruonasvel_arithmetic(
     machine: &mut [u64; 25],
     operation: u64,
     size: u64,
@@ -132,12 +129,7 @@ fn answer_to(operation: Operation, value: u64) -> ArithmeticAnswer
 }
 
 // The flags of a result at its size (RULES 2.11), in the 25 words. Answers false, and changes none, where no size has the number.
-#[unsafe(no_mangle)]
-pub extern "C" fn ruonasvel_compute_sized_flags(
-    machine: &mut [u64; 25],
-    res: u64,
-    size: u64,
-) -> bool
+pub fn ruonasvel_compute_sized_flags(machine: &mut [u64; 25], res: u64, size: u64) -> bool
     ensures { (machine.new ≡ sized_flags_on (size_at size) machine.old res) × (result ≡ names_size (size_at size)) }
 {
     let sized = wire_numbers::size_at(size);
@@ -161,8 +153,7 @@ pub struct WriteAnswer {
 }
 
 // Bytes go to an address of a lent store (RULES 4.1); of the 25 words CR3 is read. Refuses 4, then 5, then 6; may show a byte.
-#[unsafe(no_mangle)]
-pub extern "C" fn ruonasvel_mem_write(
+pub fn ruonasvel_mem_write(
     machine: &[u64; 25],
     address: u64,
     data: &[u8],
