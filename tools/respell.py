@@ -196,4 +196,5 @@ def main():
     print(f"respelled {len(names)} names")
 
 
-main()
+if __name__ == "__main__":
+    main()

@@ -249,6 +249,7 @@ pub enum Size {
 
 // The number of the parent that r is a part of; a segment, which is no part of any, gives 0 (RULES 2.2). This and the next are the table of
 // names (RULES 2.4), line by line as in specs/Registers.antt: a column each, for a pair would come back through memory.
+#[tactic(auto, unfolding(crate::specs::Registers::row))]
 pub fn get_parent(r: Register) -> usize
     ensures { result ≡ parent_of r }
 {
@@ -338,6 +339,7 @@ pub fn get_parent(r: Register) -> usize
 }
 
 // Which part of its parent r is; a segment is Nothing (RULES 2.4).
+#[tactic(auto, unfolding(crate::specs::Registers::row))]
 pub fn get_part(r: Register) -> Part
     ensures { result ≡ part_of r }
 {

@@ -20,6 +20,7 @@ pub enum SomeOperation {
 }
 
 // The number of a register among the 80, RAX 0 to GS 79.
+#[tactic(auto, unfolding(crate::specs::Numbers::register_number))]
 pub fn register_number(register: Register) -> u64
     ensures { (result ≡ register_number register) × (result < 80) }
 {

@@ -7,7 +7,8 @@ use Rattle.byte_runs.proofs.copy.Given as goal
 
 abbrev pub invariant-loop-k : goal.invariant-loop-k
 invariant-loop-k l =
-    (l.k ≤ l.n) × (l.from + l.n ≤ length l.src) × (l.at + l.n ≤ length l.initial.dst) × (length l.dst ≡ length l.initial.dst) × (l.dst ≡ filled l.initial.dst l.at (copied_from l.src l.from) l.k)
+    (l.k ≤ l.n) × (l.from + l.n ≤ length l.src) × (l.at + l.n ≤ length l.initial.dst) × (length l.dst ≡ length l.initial.dst)
+    × (l.dst ≡ filled l.initial.dst l.at (copied_from l.src l.from) l.k)
 
 abbrev pub decreases-loop-k : goal.decreases-loop-k
 decreases-loop-k l = l.n - l.k

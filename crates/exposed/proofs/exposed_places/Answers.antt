@@ -20,7 +20,7 @@ pub loop-k-smaller : goal.loop-k-smaller
 loop-k-smaller c = omega arith
 
 pub returns-then-count-gt64 : goal.returns-then-count-gt64
-returns-then-count-gt64 c = listing_refused c.args.calls c.args.count c.if-count-gt64.true
+returns-then-count-gt64 c = listing_refused c.args.calls c.args.count (omega arith)
 
 pub loop-k-init : goal.loop-k-init
 loop-k-init c = listing_none c.args.calls c.args.count
@@ -48,5 +48,5 @@ loop-k-preserved c =
 pub returns : goal.returns
 returns c =
     let e : c.loop-k.k ≡ 0 = omega arith in
-    listing_done c.args.calls c.args.count c.loop-k.on c.if-count-gt64.false
+    listing_done c.args.calls c.args.count c.loop-k.on (omega arith)
     (subst (λ (k : ℕ). Listing c.args.calls c.args.count c.loop-k.on k) e c.loop-k.invariant)

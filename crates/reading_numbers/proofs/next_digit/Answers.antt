@@ -1,4 +1,5 @@
 -- `next_digit` meets its contract: the bound is tested by parts that cannot wrap. Assumes nothing.
+use mathlib.Core.Path.{◌≡◌}
 use Prim.Native.Nat.{◌<◌}
 use native.Mathlib.Omega.{arith}
 use borrow.Author.Tests.{lt-ltb, le-ltb, lt-leb, le-leb}
@@ -17,11 +18,12 @@ returns-then-radix-d c =
 pub returns-then-v-eq0 : goal.returns-then-v-eq0
 unfolding next_digit
 returns-then-v-eq0 c =
+    let zero : c.args.v ≡ 0 = omega arith in
     rw (
       ← c.digit_value-d.ensures,
       ← c.radix_of-radix.ensures,
       lt-ltb _ _ c.if-radix-d.false,
-      c.if-v-eq0.true,
+      zero,
     )
 
 -- the bound is no less than a digit

@@ -6,10 +6,10 @@ use Rattle.text_state.proofs.put_video.Goals as goal
 
 pub returns-then-byte-lt128 : goal.returns-then-byte-lt128
 returns-then-byte-lt128 c =
-    simp (lt-ltb c.args.byte 128 c.if-byte-lt128.true)
+    simp (lt-ltb c.args.byte 128 (omega arith))
     (widen (omega arith) (c.put_bytes-o.ensures then c.put_byte.ensures))
 
 pub returns : goal.returns
 returns c =
-    simp (le-ltb c.args.byte 128 c.if-byte-lt128.false)
+    simp (le-ltb c.args.byte 128 (omega arith))
     (c.put_bytes-o.ensures then (c.put_byte-p.ensures then c.put_byte-2.ensures))
