@@ -1,8 +1,10 @@
 -- The sum of two numbers of w bits and a carry, as `plus` works it out, is the definition's: once over the width. In a module, x and y are
 -- the numbers, c the carry, n is 2^(w - 1) and m is 2^w, of which only m = 2 n is used. Assumes nothing.
-use Rattle.std.proofs.Common.{◌≡◌, ℕ, ◌+◌, ◌-◌, ◌*◌, ◌%◌, ◌^◌, ◌<◌, ◌≤◌, Bool, true, false, cond, not, ◌&&◌, ◌||◌, ltb, leb, ℤ, pos, ◌+ℤ◌, ◌-ℤ◌, neg_ℤ, sym, refl, ap, ◌∙◌, ap₂, mod-lt, mod-eq_of_lt, arith, pow_pos, le-ltb, lt-ltb, le-leb}
+use Rattle.std.proofs.Common.{◌≡◌, ℕ, ◌+◌, ◌-◌, ◌*◌, ◌%◌, ◌^◌, ◌<◌, ◌≤◌, Bool, true, false, cond, not, ◌&&◌, ◌||◌, ltb, leb, ℤ, pos, ◌+ℤ◌}
+use Rattle.std.proofs.Common.{◌-ℤ◌, neg_ℤ, sym, refl, ap, ◌∙◌, ap₂, mod-lt, mod-eq_of_lt, arith, pow_pos, le-ltb, lt-ltb, le-leb}
 use native.Mathlib.Decide.{dec_le, dec_lt}
-use native.Mathlib.Nat.{mod-add-mod, mul-add-mod_self_right}
+use Rattle.std.proofs.lemmas.Nat.{mod-mul-add}
+use native.Mathlib.Nat.{mod-add-mod}
 use borrow.Author.Tests.{lt-leb}
 use lib.IntN.{+ℤ_idl}
 use lib.Signed.{lt_z}
@@ -19,7 +21,7 @@ use Rattle.arithmetic.proofs.Widths.{bits_some, bits_within, carry_below, cut_wo
 
 -- the rest of t, whatever is the quotient
 pub rest_is : (m q v t : ℕ) → v < m → t ≡ q * m + v → t % m ≡ v
-rest_is m q v t l e = ap (λ (x : ℕ). x % m) e ∙ mul-add-mod_self_right q m v ∙ mod-eq_of_lt l
+rest_is m q v t l e = rw e (mod-mul-add q m v l)
 
 -- ---- what is outside the signed range, of a difference of two numbers
 pub outside_gap : (w p q : ℕ) → outside w (gap p q) ≡ (ltb (p + 2 ^ (w - 1)) q || not (ltb p (2 ^ (w - 1) + q)))

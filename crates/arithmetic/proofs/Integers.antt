@@ -1,5 +1,7 @@
 -- Differences of two numbers, as integers: they add, they turn, and they compare as sums of numbers do. By the signs. Assumes nothing.
-use Rattle.std.proofs.Common.{◌≡◌, ℕ, zero, suc, ◌+◌, ◌-◌, ◌<◌, ◌≤◌, ltb, ℤ, pos, negsuc, ◌+ℤ◌, ◌-ℤ◌, neg_ℤ, sym, ap, ◌∙◌, arith, le-ltb, lt-ltb}
+use Rattle.std.proofs.Common.{◌≡◌, ℕ, zero, suc, ◌+◌, ◌-◌, ◌<◌, ◌≤◌, ltb, ℤ, pos, negsuc, ◌+ℤ◌, ◌-ℤ◌, neg_ℤ, sym, ap, ◌∙◌, arith, le-ltb}
+use Rattle.std.proofs.Common.{lt-ltb}
+use Rattle.std.proofs.lemmas.Bool.{ltb-true, ltb_from_iff}
 use native.Mathlib.Decide.{dec_lt}
 use lib.IntN.{+ℤ_assoc, +ℤ_comm, neg_ℤ-+ℤ, neg_ℤ-neg_ℤ}
 use lib.Signed.{lt_z}
@@ -18,13 +20,7 @@ gap_from p (suc q) l = rw (le-ltb p (suc q) l)
 
 -- ---- they compare
 pub same_test : (a b c d : ℕ) → (a < b → c < d) → (c < d → a < b) → ltb a b ≡ ltb c d
-same_test a b c d f g = go (dec_lt a b) (dec_lt c d)
-  where
-    go : Dec (a < b) → Dec (c < d) → ltb a b ≡ ltb c d
-    go (yes h) (yes k) = lt-ltb a b h ∙ sym (lt-ltb c d k)
-    go (yes h) (no k) = absurd (k (f h))
-    go (no h) (yes k) = absurd (h (g k))
-    go (no h) (no k) = le-ltb a b (omega (arith, h)) ∙ sym (le-ltb c d (omega (arith, k)))
+same_test a b c d f g = ltb_from_iff (λ e. f (ltb-true a b e), λ k. lt-ltb a b (g k))
 
 pub gap_less : (p q r s : ℕ) → lt_z (gap p q) (gap r s) ≡ ltb (p + s) (r + q)
 gap_less p q r s = go (dec_lt p q) (dec_lt r s)

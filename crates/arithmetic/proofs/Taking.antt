@@ -1,6 +1,7 @@
 -- A difference as `minus` works it out: the sum with the complement and the other carry, and its Carry turned. Once over the width.
 -- Assumes nothing.
-use Rattle.std.proofs.Common.{◌≡◌, ℕ, ◌+◌, ◌-◌, ◌*◌, ◌/◌, ◌%◌, ◌^◌, ◌<◌, ◌≤◌, Bool, true, false, not, ltb, leb, ℤ, pos, ◌+ℤ◌, ◌-ℤ◌, neg_ℤ, sym, refl, ap, ◌∙◌, ap₂, mul-le-mul_right, mod-lt, div-add-mod', arith, pow_pos, le-ltb, lt-ltb, le-leb}
+use Rattle.std.proofs.Common.{◌≡◌, ℕ, ◌+◌, ◌-◌, ◌*◌, ◌/◌, ◌%◌, ◌^◌, ◌<◌, ◌≤◌, Bool, true, false, not, ltb, leb, ℤ, pos, ◌+ℤ◌, ◌-ℤ◌, neg_ℤ}
+use Rattle.std.proofs.Common.{sym, refl, ap, ◌∙◌, ap₂, mul-le-mul_right, mod-lt, div-add-mod', arith, pow_pos, le-ltb, lt-ltb, le-leb}
 use native.Mathlib.Decide.{dec_le, dec_lt}
 use borrow.Author.Tests.{lt-leb}
 use lib.IntN.{+ℤ_assoc}

@@ -1,5 +1,6 @@
 -- The widths of the sizes: at least one bit and at most 64; a number's low w bits, and its top one. Assumes nothing.
-use Rattle.std.proofs.Common.{◌≡◌, ℕ, zero, suc, ◌+◌, ◌-◌, ◌*◌, ◌/◌, ◌%◌, ◌^◌, ◌<◌, ◌≤◌, Bool, true, false, not, eqb, ltb, sym, ap, ◌∙◌, mod-lt, div-lt_iff_lt-mul, div-add-mod', arith, pow_pos, le-ltb, lt-ltb}
+use Rattle.std.proofs.Common.{◌≡◌, ℕ, zero, suc, ◌+◌, ◌-◌, ◌*◌, ◌/◌, ◌%◌, ◌^◌, ◌<◌, ◌≤◌, Bool, true, false, not, eqb, ltb, sym, ap, ◌∙◌}
+use Rattle.std.proofs.Common.{mod-lt, div-lt_iff_lt-mul, div-add-mod', arith, pow_pos, le-ltb, lt-ltb}
 use Rattle.utils.specs.Word.{cut}
 use Rattle.utils.proofs.Field.{cut_mod, cut_bottom}
 use Rattle.utils.proofs.Powers.{twice}

@@ -1,6 +1,7 @@
 -- Add, add with carry, subtract, subtract with borrow and compare (RULES 2.12 to 2.14), by the rules of the manual, over the width w of
 -- the size. No number is cut before it is compared: the sum of two numbers of w bits may have w + 1, and b + c may be 2^w.
-use Rattle.std.specs.Prelude.{ℕ, ◌+◌, ◌-◌, ◌*◌, ◌%◌, ◌^◌, Bool, true, false, cond, not, ◌||◌, ℤ, pos, ◌+ℤ◌, ◌-ℤ◌, neg_ℤ, ◌==◌, int_lt, nat_le, nat_lt}
+use Rattle.std.specs.Prelude.{ℕ, ◌+◌, ◌-◌, ◌*◌, ◌%◌, ◌^◌, Bool, true, false, cond, not, ◌||◌, ℤ, pos, ◌+ℤ◌, ◌-ℤ◌, neg_ℤ, ◌==◌, int_lt}
+use Rattle.std.specs.Prelude.{nat_le, nat_lt}
 use Rattle.utils.specs.Word.{extend}
 use Rattle.instruction_set.specs.Sizes.{bytes_of}
 use Rattle.instruction_set.specs.declared.ArgumentSize.{ArgumentSize}

@@ -12,7 +12,7 @@ ghost use Rattle.arithmetic.specs.Sums.{added, subtracted, carry_taken, is_diffe
 use instruction_set::{ArgumentSize, Flags};
 
 // The five operations (RULES 2.12), in the order of their numbers in docs/FORMAT.md, 0 to 4.
-#[derive(Clone, Copy)]
+#[derive(Clone, Copy, Debug, PartialEq, Eq)]
 pub enum Operation {
     Add,
     AddWithCarry,
@@ -34,15 +34,6 @@ pub struct Sum {
 pub struct Computed {
     pub rflags: u64,
     pub value: u64,
-}
-
-fn one_if(carry: bool) -> u64
-    ensures { result ≡ bool_bit carry }
-{
-    if carry {
-        return 1;
-    }
-    0
 }
 
 // Whether a signed sum leaves its range, by the three top bits: both values have one sign, and the sum has the other.
@@ -68,8 +59,8 @@ fn plus(size: ArgumentSize, a: u64, b: u64, carry: bool) -> Sum
 {
     let x = fields::cut_to(a, size);
     let y = fields::cut_to(b, size);
-    let partial = fields::cut_to(std::num::wrapping_add_u64(x, y), size);
-    let value = fields::cut_to(std::num::wrapping_add_u64(partial, one_if(carry)), size);
+    let partial = fields::cut_to(x.wrapping_add(y), size);
+    let value = fields::cut_to(partial.wrapping_add(u64::from(carry)), size);
     Sum {
         value,
         carry: passes(x, partial, value),
@@ -85,11 +76,10 @@ fn plus(size: ArgumentSize, a: u64, b: u64, carry: bool) -> Sum
 fn minus(size: ArgumentSize, a: u64, b: u64, borrow: bool) -> Sum
     ensures { result ≡ subtracted (8 * bytes_of size) (a % 2 ^ (8 * bytes_of size)) (b % 2 ^ (8 * bytes_of size)) (bool_bit borrow) }
 {
-    let sum = plus(size, a, 0xFFFF_FFFF_FFFF_FFFF - b, !borrow);
+    let sum = plus(size, a, !b, !borrow);
     Sum {
-        value: sum.value,
         carry: !sum.carry,
-        overflow: sum.overflow,
+        ..sum
     }
 }
 
@@ -97,26 +87,18 @@ fn minus(size: ArgumentSize, a: u64, b: u64, borrow: bool) -> Sum
 fn carry_taken(operation: Operation, carry: bool) -> bool
     ensures { result ≡ carry_taken operation carry }
 {
-    match operation {
-        Operation::Add => false,
-        Operation::AddWithCarry => carry,
-        Operation::Subtract => false,
-        Operation::SubtractWithBorrow => carry,
-        Operation::Compare => false,
-    }
+    carry
+        && matches!(
+            operation,
+            Operation::AddWithCarry | Operation::SubtractWithBorrow
+        )
 }
 
 // Compare is a subtraction.
 fn is_difference(operation: Operation) -> bool
     ensures { result ≡ is_difference operation }
 {
-    match operation {
-        Operation::Add => false,
-        Operation::AddWithCarry => false,
-        Operation::Subtract => true,
-        Operation::SubtractWithBorrow => true,
-        Operation::Compare => true,
-    }
+    !matches!(operation, Operation::Add | Operation::AddWithCarry)
 }
 
 fn worked(operation: Operation, size: ArgumentSize, a: u64, b: u64, carry: bool) -> Sum
@@ -133,23 +115,15 @@ fn with_flags(rflags: u64, size: ArgumentSize, sum: Sum) -> u64
     ensures { result ≡ flags_of rflags size sum }
 {
     let carry = fields::with_flag(rflags, Flags::Carry, sum.carry);
-    let parity = fields::with_flag(carry, Flags::Parity, fields::even_parity(sum.value));
-    let zero = fields::with_flag(parity, Flags::Zero, sum.value == 0);
-    let sign = fields::with_flag(zero, Flags::Sign, fields::sign_bit(sum.value, size));
-    fields::with_flag(sign, Flags::Overflow, sum.overflow)
+    let computed = fields::computed_flags(carry, sum.value, size);
+    fields::with_flag(computed, Flags::Overflow, sum.overflow)
 }
 
-// Whether an operation answers a value: all but compare (RULES 2.14).
+// Whether an operation answers a value: all but compare (RULES 2.14), whose difference is worked out all the same, as `computed_of` says.
 pub fn gives_value(operation: Operation) -> bool
     ensures { result ≡ gives_value operation }
 {
-    match operation {
-        Operation::Add => true,
-        Operation::AddWithCarry => true,
-        Operation::Subtract => true,
-        Operation::SubtractWithBorrow => true,
-        Operation::Compare => false,
-    }
+    operation != Operation::Compare
 }
 
 // The operation on two values cut to the size: rflags after it and its result (RULES 2.12 to 2.14). Never refuses.

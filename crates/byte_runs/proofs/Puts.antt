@@ -5,14 +5,16 @@ use mathlib.Core.List.{List}
 use mathlib.Core.Path.{◌≡◌, refl, sym, ap, ◌∙◌}
 use Prim.Native.Nat.{ℕ, ◌+◌, ◌*◌, ◌/◌, ◌%◌, ◌-◌, ◌<◌, ◌≤◌}
 use native.Mathlib.Omega.{arith}
-use native.Mathlib.Nat.{zero-add}
+use native.Mathlib.Nat.{zero-add, add-zero}
 use borrow.Author.Tests.{not-true, not-false, leb-true, leb-false, le-leb, lt-leb}
 use lib.Dec.{leb}
-use lib.ListN.{length, get_or}
-use Rattle.utils.specs.Bytes.{to_bytes}
+use lib.ListN.{length, get_or, take, drop, replicate, length-drop}
+use Rattle.std.proofs.lemmas.List.{length-take-le, get_or-take, get_or-drop, length-replicate, get_or-replicate}
+use borrow.Rule.Slice.PartMut.{put_mid}
+use Rattle.utils.specs.Bytes.{to_bytes, from_bytes}
 use Rattle.utils.proofs.Bytes.{byte_lane}
-use Rattle.byte_runs.proofs.Filled.{filled_add, filled_ext}
-use Rattle.byte_runs.specs.Runs.{filled, room, lane_in, copied_from, FilledIf}
+use Rattle.byte_runs.proofs.Filled.{is_tab, filled_add, filled_ext, part_filled}
+use Rattle.byte_runs.specs.Runs.{tabulate, filled, room, word_from, word_in, lane_in, copied_from, FilledIf}
 
 pub room_yes : (len at n : ℕ) → at + n ≤ len → room len at n ≡ true
 unfolding room
@@ -70,10 +72,11 @@ byte_of_word ws k j lt =
 
 -- one word more
 pub word_more : (d : List ℕ) (at : ℕ) (ws : List ℕ) (k : ℕ)
-    → filled (filled d at (lane_in ws) (8 * k)) (at + 8 * k) (copied_from (to_bytes 8 (get_or ws k 0)) 0) 8 ≡ filled d at (lane_in ws) (8 * (k + 1))
+    → filled (filled d at (lane_in ws) (8 * k)) (at + 8 * k) (copied_from (to_bytes 8 (get_or ws k 0)) 0) 8
+    ≡ filled d at (lane_in ws) (8 * (k + 1))
 word_more d at ws k =
-    filled_ext (filled d at (lane_in ws) (8 * k)) (at + 8 * k) (copied_from (to_bytes 8 (get_or ws k 0)) 0) (λ (j : ℕ). lane_in ws (8 * k + j))
-    8 (byte_of_word ws k)
+    filled_ext (filled d at (lane_in ws) (8 * k)) (at + 8 * k) (copied_from (to_bytes 8 (get_or ws k 0)) 0)
+    (λ (j : ℕ). lane_in ws (8 * k + j)) 8 (byte_of_word ws k)
     ∙ filled_add d at (lane_in ws) (8 * k) 8
     ∙ ap (λ (n : ℕ). filled d at (lane_in ws) n) (omega arith)
 
@@ -81,3 +84,25 @@ word_more d at ws k =
 pub put_one : {ok r q : Bool} {l l' l'' : List ℕ} {at n : ℕ} {f : ℕ → ℕ}
     → FilledIf ok l at f n l' r → FilledIf ok l at f n l'' q → (r ≡ q) × (l' ≡ l'')
 put_one a b = (a.done ∙ sym b.done, a.bytes ∙ sym b.bytes)
+
+-- what a copy of a part, and a fill of one, leave: k is how the code gives the part's length
+pub put_copy : (dst src ys : List ℕ) (at from n k : ℕ) → k ≡ n → at + n ≤ length dst → from + n ≤ length src → ys ≡ take n (drop from src)
+    → put_mid at k dst ys ≡ filled dst at (copied_from src from) n
+put_copy dst src ys at from n k q r s e =
+    let size : length (take n (drop from src)) ≡ n = length-take-le n (drop from src) (omega (arith, length-drop from src)) in
+    rw (q, e) (part_filled dst at (copied_from src from) n (take n (drop from src)) r size
+    (λ j lt. get_or-take n (drop from src) j 0 lt ∙ get_or-drop from src j 0))
+
+pub put_fill : (dst ys : List ℕ) (at n k m v : ℕ) → k ≡ n → m ≡ n → at + n ≤ length dst → ys ≡ replicate m v
+    → put_mid at k dst ys ≡ filled dst at (λ (j : ℕ). v) n
+put_fill dst ys at n k m v q p r e =
+    rw (q, e, p) (part_filled dst at (λ (j : ℕ). v) n (replicate n v) r (length-replicate n v) (λ j lt. get_or-replicate n j v 0 lt))
+
+-- the eight bytes that a slice begins with, as the word that stands there
+pub word_there : (b w : List ℕ) (at x : ℕ) → at + 8 ≤ length b → w ≡ take 8 (drop at b) → x ≡ from_bytes w → x ≡ word_in b at
+unfolding word_in word_from tabulate
+word_there b w at x h e q =
+    let size : length (take 8 (drop at b)) ≡ 8 = length-take-le 8 (drop at b) (omega (arith, length-drop at b)) in
+    let bytes : take 8 (drop at b) ≡ tabulate (λ k. get_or b (at + k) 0) 8 =
+    is_tab (take 8 (drop at b)) (λ k. get_or b (at + k) 0) 8 size (λ k lt. get_or-take 8 (drop at b) k 0 lt ∙ get_or-drop at b k 0) in
+    q ∙ rw (e, bytes, room_yes (length b) at 8 h, add-zero)

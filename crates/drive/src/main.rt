@@ -5,25 +5,47 @@
 #![tactic(auto)]
 
 use machine_state::MachineState;
-use std::io;
-use std::io::{BufReader, BufWriter, Read, Stderr, Stdin, Stdout, Write};
+use std::io::{BufReader, BufWriter, Read, Stdin, Stdout, Write};
 use std::process::ExitCode;
+use std::{fmt, io};
 use wire_records::{CallKind, Header, Kind, ShowKind};
-use wire_session::Carried;
+use wire_session::{Carried, Start};
 
 mod services; // services.rt: the records that leave the machine and the store
 
-// Where the program stands: the machine, how much of the arrays is the store, the slots in use, whether to go on, whether a record could
-// not be carried out, and how many records were answered.
-#[derive(Clone, Copy)]
-struct Run {
-    machine: MachineState,
-    slots: usize,
-    length: usize,
-    used: usize,
-    more: bool,
-    failed: bool,
-    answered: u64,
+// Why a record could not be carried out.
+#[derive(Debug, Drop)]
+enum Fault {
+    Malformed,
+    CutShort,
+    Block,
+    Unwritten,
+    Unread(io::Error),
+}
+
+impl fmt::Display for Fault {
+    fn fmt<W: fmt::Write>(&self, f: &mut fmt::Formatter<W>) -> fmt::Result {
+        match self {
+            Fault::Malformed => write!(f, " is malformed"),
+            Fault::CutShort => write!(f, " is cut short"),
+            Fault::Block => write!(f, ": its block is too long or cut short"),
+            Fault::Unwritten => write!(f, ": the answer could not be written"),
+            Fault::Unread(error) => write!(f, ": {error}"),
+        }
+    }
+}
+
+impl From<io::Error> for Fault {
+    fn from(error: io::Error) -> Fault {
+        Fault::Unread(error)
+    }
+}
+
+// Which record that was, counted from 0.
+#[derive(Debug, Drop)]
+struct Stopped {
+    record: u64,
+    fault: Fault,
 }
 
 // Standard input is read ahead; what a record is answered goes out at once.
@@ -31,21 +53,10 @@ struct Run {
 struct Streams {
     input: BufReader<Stdin>,
     output: BufWriter<Stdout>,
-    errors: Stderr,
 }
 
-// Says on standard error which record could not be carried out, and ends.
-fn complain(what: &str, run: Run, streams: &mut Streams) -> Run {
-    let answered = run.answered;
-    let _ = write!(streams.errors, "drive: record {answered}{what}");
-    Run {
-        more: false,
-        failed: true,
-        ..run
-    }
-}
-
-// Reads until the buffer is full or the input ends. Returns how many bytes it got.
+// Reads until the buffer is full or the input ends. Returns how many bytes it got, which std's `read_exact` does not say: it is asked here,
+// for nothing at all ends the run, and too little is a record cut short.
 fn read_full(input: &mut BufReader<Stdin>, buf: &mut [u8]) -> io::Result<usize> {
     let mut done = 0;
     while done < buf.len() {
@@ -58,15 +69,13 @@ fn read_full(input: &mut BufReader<Stdin>, buf: &mut [u8]) -> io::Result<usize> 
     Ok(done)
 }
 
-fn read_block(n: usize, block: &mut [u8], streams: &mut Streams) -> io::Result<bool> {
-    if block.len() < n {
-        return Ok(false);
+// The block of so many bytes that follows a header.
+fn read_block(n: usize, block: &mut [u8], streams: &mut Streams) -> Result<(), Fault> {
+    let wanted = block.get_mut(..n).ok_or(Fault::Block)?;
+    if read_full(&mut streams.input, wanted)? < n {
+        return Err(Fault::Block);
     }
-    if n == 0 {
-        return Ok(true);
-    }
-    let got = read_full(&mut streams.input, &mut block[..n])?;
-    Ok(got == n)
+    Ok(())
 }
 
 fn write_parts(out: &[u8], given: &[u8], output: &mut BufWriter<Stdout>) -> io::Result<()> {
@@ -75,247 +84,184 @@ fn write_parts(out: &[u8], given: &[u8], output: &mut BufWriter<Stdout>) -> io::
     output.flush()
 }
 
-fn write_answer(carried: Carried, block: &[u8], streams: &mut Streams) -> bool {
-    let event = carried.event;
-    let reply = carried.reply;
-    let n = reply.given;
-    let out = wire_records::encode(reply, event, carried.used);
-    if block.len() < n {
-        return false;
+// Writes the answer, and says where the program stands after it.
+fn answer(
+    carried: Carried,
+    state: Start,
+    block: &[u8],
+    streams: &mut Streams,
+) -> Result<Start, Fault> {
+    let reply = carried.reply.ok_or(Fault::Malformed)?;
+    let given = block.get(..reply.given).ok_or(Fault::Unwritten)?;
+    let out = wire_records::encode(reply, carried.event, carried.used);
+    if write_parts(&out, given, &mut streams.output).is_err() {
+        return Err(Fault::Unwritten);
     }
-    write_parts(&out, &block[..n], &mut streams.output).is_ok()
-}
-
-// The answer, and where the program stands after it.
-fn answer(carried: Carried, run: Run, block: &[u8], streams: &mut Streams) -> Run {
-    let reply = carried.reply;
-    if !reply.formed {
-        return complain(" is malformed\n", run, streams);
-    }
-    if !write_answer(carried, block, streams) {
-        return complain(": the answer could not be written\n", run, streams);
-    }
-    let machine = carried.machine;
-    Run {
-        machine,
-        slots: run.slots,
-        length: run.length,
+    Ok(Start {
+        machine: carried.machine,
         used: carried.used,
-        more: true,
-        failed: false,
-        answered: std::num::wrapping_add_u64(run.answered, 1),
-    }
+        ..state
+    })
 }
 
-// How many of the block's bytes are lent to the record: a read and a text have a buffer of b bytes, a call and a load what follows the
+// Whether a record is lent a buffer of b bytes, each byte of it the low byte of c.
+fn fills(kind: Kind) -> bool {
+    matches!(kind, Kind::Call(CallKind::ReadMemory) | Kind::Text(_))
+}
+
+// How many of the block's bytes are lent to the record: a read and a text have their buffer, a call and a load what follows the
 // header, and what shows or reports all of it, for its answer.
 fn lent_length(header: Header) -> usize {
-    let kind = header.kind;
-    match kind {
-        Kind::Call(call) => call_lent(call, header),
-        Kind::Show(show) => show_lent(show, header),
-        Kind::Text(_) => header.b as usize,
+    match header.kind {
+        Kind::Call(CallKind::ReadMemory) | Kind::Text(_) => header.b as usize,
+        Kind::Call(_) | Kind::Show(ShowKind::Load) => header.length as usize,
         _ => 8192,
-    }
-}
-
-fn call_lent(call: CallKind, header: Header) -> usize {
-    match call {
-        CallKind::ReadMemory => header.b as usize,
-        _ => header.length as usize,
-    }
-}
-
-fn show_lent(show: ShowKind, header: Header) -> usize {
-    match show {
-        ShowKind::Load => header.length as usize,
-        _ => 8192,
-    }
-}
-
-// Whether a record is lent a buffer, each byte of it the low byte of c.
-fn fills(kind: Kind) -> bool {
-    match kind {
-        Kind::Call(call) => reads_memory(call),
-        Kind::Text(_) => true,
-        _ => false,
-    }
-}
-
-fn reads_memory(call: CallKind) -> bool {
-    match call {
-        CallKind::ReadMemory => true,
-        _ => false,
     }
 }
 
 // Carries out a record on the parts of the arrays that are its buffer and the store.
 fn carried(
     header: Header,
-    run: Run,
+    state: Start,
     block: &mut [u8],
-    n: usize,
     dir: &mut [u64],
     bytes: &mut [u8],
 ) -> Carried {
-    let slots = run.slots;
-    let length = run.length;
-    let machine = run.machine;
-    if block.len() < n {
-        return wire_session::malformed(machine, run.used);
+    let n = lent_length(header);
+    if block.len() < n || dir.len() < state.slots || bytes.len() < state.length {
+        return wire_session::malformed(state.machine, state.used);
     }
-    if dir.len() < slots {
-        return wire_session::malformed(machine, run.used);
-    }
-    if bytes.len() < length {
-        return wire_session::malformed(machine, run.used);
+    if fills(header.kind) {
+        block[..n].fill((header.c % 256) as u8);
     }
     wire_session::carry_out(
         header,
-        machine,
+        state.machine,
         &mut block[..n],
-        &mut dir[..slots],
-        &mut bytes[..length],
-        run.used,
+        &mut dir[..state.slots],
+        &mut bytes[..state.length],
+        state.used,
     )
 }
 
 // A reset is lent the bytes that follow its header, and none of an earlier record's.
 fn restart(
     header: Header,
-    run: Run,
     block: &[u8],
     dir: &mut [u64],
     bytes: &mut [u8],
-    streams: &mut Streams,
-) -> Run {
-    let n = header.length as usize;
-    if block.len() < n {
-        return complain(" is malformed\n", run, streams);
-    }
-    let start = wire_session::reset_to(header, &block[..n], dir, bytes);
-    if !start.formed {
-        return complain(" is malformed\n", run, streams);
-    }
-    let machine = start.machine;
-    let done = wire_session::done(machine, start.used);
-    let fresh = Run {
-        machine,
-        slots: start.slots,
-        length: start.length,
-        used: start.used,
-        more: true,
-        failed: false,
-        answered: run.answered,
-    };
-    answer(done, fresh, block, streams)
-}
-
-fn is_reset(kind: Kind) -> bool {
-    match kind {
-        Kind::Reset => true,
-        _ => false,
-    }
+) -> Result<Start, Fault> {
+    let lent = block.get(..header.length as usize).ok_or(Fault::Malformed)?;
+    wire_session::reset_to(header, lent, dir, bytes).ok_or(Fault::Malformed)
 }
 
 fn carry_out(
     header: Header,
-    run: Run,
+    state: Start,
     block: &mut [u8; 8192],
     dir: &mut [u64],
     bytes: &mut [u8],
     streams: &mut Streams,
-) -> Run {
-    let kind = header.kind;
-    if is_reset(kind) {
-        return restart(header, run, block, dir, bytes, streams);
+) -> Result<Start, Fault> {
+    match header.kind {
+        Kind::Reset => {
+            let fresh = restart(header, block, dir, bytes)?;
+            let done = wire_session::done(fresh.machine, fresh.used);
+            answer(done, fresh, block, streams)
+        }
+        Kind::ReadBack | Kind::Depends => {
+            let reply = services::serve(header, block);
+            let left = Carried {
+                reply,
+                ..wire_session::done(state.machine, state.used)
+            };
+            answer(left, state, block, streams)
+        }
+        _ => {
+            let left = carried(header, state, block, dir, bytes);
+            answer(left, state, block, streams)
+        }
     }
-    if services::serves(kind) {
-        let left = services::serve(header, run.machine, run.used, block);
-        return answer(left, run, block, streams);
-    }
-    let n = lent_length(header);
-    if fills(kind) {
-        byte_runs::fill(block, 0, n, (header.c % 256) as u8);
-    }
-    let left = carried(header, run, block, n, dir, bytes);
-    answer(left, run, block, streams)
 }
 
-// One record.
+// One record: where the program stands after it, or nothing where the input ends before it.
 fn one(
-    run: Run,
+    state: Start,
     block: &mut [u8; 8192],
     dir: &mut [u64],
     bytes: &mut [u8],
     streams: &mut Streams,
-) -> io::Result<Run> {
+) -> Result<Option<Start>, Fault> {
     let mut record = [0u8; 128];
     let got = read_full(&mut streams.input, &mut record)?;
     if got == 0 {
-        return Ok(Run { more: false, ..run });
+        return Ok(None);
     }
-    if got < 128 {
-        return Ok(complain(" is cut short\n", run, streams));
+    if got < record.len() {
+        return Err(Fault::CutShort);
     }
     let header = wire_records::header_in(&record, 0);
-    if !read_block(header.length as usize, block, streams)? {
-        return Ok(complain(": its block is too long or cut short\n", run, streams));
-    }
-    Ok(carry_out(header, run, block, dir, bytes, streams))
+    read_block(header.length as usize, block, streams)?;
+    let next = carry_out(header, state, block, dir, bytes, streams)?;
+    Ok(Some(next))
 }
 
-// A proved loop has to end, and nothing says that the input does: it counts down from a number of records that no run uses up. Returns
-// where the program stands then.
+// Record by record, to the input's end. Between records stands what a reset leaves: the machine, how much of the arrays is the store, and
+// the slots in use. The arrays are main's, and lent one by one: a struct of them would be taken apart again for each record.
+// A proved loop has to end, and nothing says that the input does: so many records no run has.
 fn all(
-    run: Run,
     block: &mut [u8; 8192],
     dir: &mut [u64],
     bytes: &mut [u8],
     streams: &mut Streams,
-) -> io::Result<Run> {
-    let mut now = run;
-    let mut turns = u64::MAX;
-    while turns > 0 && now.more {
-        now = one(now, block, dir, bytes, streams)?;
-        turns -= 1;
-    }
-    Ok(now)
-}
-
-// Takes the arrays as arrays: their length is then known by their type.
-fn lent(
-    run: Run,
-    block: &mut [u8; 8192],
-    dir: &mut [u64; 128],
-    bytes: &mut [u8; 524288],
-    streams: &mut Streams,
-) -> io::Result<Run> {
-    all(run, block, dir, bytes, streams)
-}
-
-// The status is not 0 where a record could not be carried out.
-fn main(rt: HostRuntime) -> io::Result<ExitCode> {
-    let mut streams = Streams {
-        input: BufReader::new(rt.alloc(), rt.stdin())?,
-        output: BufWriter::new(rt.alloc(), rt.stdout())?,
-        errors: rt.stderr(),
-    };
-    let mut block = [0u8; 8192];
-    let mut dir = [0u64; 128];
-    let mut bytes = [0u8; 524288];
-    let run = Run {
+) -> Result<(), Stopped> {
+    let mut state = Start {
         machine: MachineState::new(),
         slots: 0,
         length: 0,
         used: 0,
-        more: true,
-        failed: false,
-        answered: 0,
     };
-    let end = lent(run, &mut block, &mut dir, &mut bytes, &mut streams)?;
-    if end.failed {
-        return Ok(ExitCode::FAILURE);
+    for record in 0..u64::MAX {
+        match one(state, block, dir, bytes, streams) {
+            Ok(Some(next)) => state = next,
+            Ok(None) => break,
+            Err(fault) => return Err(Stopped { record, fault }),
+        }
     }
-    Ok(ExitCode::SUCCESS)
+    Ok(())
+}
+
+// Takes the arrays as arrays, whose lengths their types say: where they become slices in main itself, as they are written there, the check
+// of their half a million elements runs out of stack.
+fn lent(
+    block: &mut [u8; 8192],
+    dir: &mut [u64; 128],
+    bytes: &mut [u8; 524288],
+    streams: &mut Streams,
+) -> Result<(), Stopped> {
+    all(block, dir, bytes, streams)
+}
+
+// The status is not 0 where a record could not be carried out; where the input can't be read, it ends with that error.
+fn main(rt: HostRuntime) -> io::Result<ExitCode> {
+    let mut streams = Streams {
+        input: BufReader::new(rt.alloc(), rt.stdin())?,
+        output: BufWriter::new(rt.alloc(), rt.stdout())?,
+    };
+    let mut block = [0u8; 8192];
+    let mut dir = [0u64; 128];
+    let mut bytes = [0u8; 524288];
+    match lent(&mut block, &mut dir, &mut bytes, &mut streams) {
+        Ok(()) => Ok(ExitCode::SUCCESS),
+        Err(
+            Stopped {
+                fault: Fault::Unread(error),
+                ..
+            },
+        ) => Err(error),
+        Err(Stopped { record, fault }) => {
+            let _ = eprintln!(rt; "drive: record {record}{fault}");
+            Ok(ExitCode::FAILURE)
+        }
+    }
 }

@@ -6,7 +6,7 @@ use mathlib.Core.Logic.{◌⊎◌, inl, inr}
 use mathlib.Core.Bool.{Bool, true, false, not, ◌&&◌, ◌||◌, or-false}
 use mathlib.Core.List.{List, [], ◌∷◌, ◌++◌}
 use native.Mathlib.Omega.{arith}
-use Rattle.utils.proofs.Bools.{tested, or_left, or_right, or_none_left, or_none_right}
+use Rattle.std.proofs.lemmas.Bool.{cases_Bool, or_left, or_right, or_parts}
 use Rattle.effects.specs.Exposed.{Performed, exposed, rewritten, end, trace, Seen, Forgotten, Exposes}
 
 -- what each call owes: it sees only what it reads, of the shared part only if it reaches memory, and changes only what it rewrites
@@ -32,14 +32,14 @@ module _ {C A X S Z : Type 0} (reads rewrites : C → ℕ → Bool) (reaches : C
   unfolding rewritten end
   kept [] x p g h = refl
   kept (c ∷ cs) x p g h =
-      kept cs (does c x).after p (owed.good c x g) (or_none_right (rewrites c p) (rewritten rewrites cs p) h)
-      ∙ owed.keeps c x p g (or_none_left (rewrites c p) (rewritten rewrites cs p) h)
+      kept cs (does c x).after p (owed.good c x g) (or_parts (rewrites c p) (rewritten rewrites cs p) h).1
+      ∙ owed.keeps c x p g (or_parts (rewrites c p) (rewritten rewrites cs p) h).0
 
   -- after one call they agree where they did, and where it rewrites
   after_one : (c : C) (x y : X) (p : ℕ) → Good x → Good y → ((p : ℕ) → reads c p ≡ true → place x p ≡ place y p)
       → (reaches c ≡ true → shared x ≡ shared y)
       → (rewrites c p ≡ true) ⊎ (place x p ≡ place y p) → place (does c x).after p ≡ place (does c y).after p
-  after_one c x y p gx gy a s h = go (tested (rewrites c p)) h
+  after_one c x y p gx gy a s h = go (cases_Bool (rewrites c p)) h
     where
       go : (rewrites c p ≡ true) ⊎ (rewrites c p ≡ false) → (rewrites c p ≡ true) ⊎ (place x p ≡ place y p)
           → place (does c x).after p ≡ place (does c y).after p
@@ -57,7 +57,7 @@ module _ {C A X S Z : Type 0} (reads rewrites : C → ℕ → Bool) (reaches : C
   rest_agree : (c : C) (cs : List C) (x y : X) → Good x → Good y → shared x ≡ shared y → Agree (c ∷ cs) x y
       → Agree cs (does c x).after (does c y).after
   unfolding Agree exposed
-  rest_agree c cs x y gx gy s a p h = go (tested (rewrites c p))
+  rest_agree c cs x y gx gy s a p h = go (cases_Bool (rewrites c p))
     where
       go : (rewrites c p ≡ true) ⊎ (rewrites c p ≡ false) → place (does c x).after p ≡ place (does c y).after p
       go (inl t) = owed.renews c x y p gx gy (reads_agree c cs x y a) (λ r. s) t
@@ -84,7 +84,7 @@ module _ {C A X S Z : Type 0} (reads rewrites : C → ℕ → Bool) (reaches : C
   settled (c ∷ cs) x y p gx gy s a h =
       settled cs (does c x).after (does c y).after p (owed.good c x gx) (owed.good c y gy) (owed.moves c x y gx gy ra s)
       (rest_agree c cs x y gx gy s a)
-      (go (tested (rewrites c p)) h)
+      (go (cases_Bool (rewrites c p)) h)
     where
       ra : (p : ℕ) → reads c p ≡ true → place x p ≡ place y p
       ra = reads_agree c cs x y a
@@ -101,7 +101,7 @@ module _ {C A X S Z : Type 0} (reads rewrites : C → ℕ → Bool) (reaches : C
   forgotten cs x y gx gy s a =
       record {
         alike = alike cs x y gx gy s a;
-        agree = λ p h. settled cs x y p gx gy s a (which p (tested (rewritten rewrites cs p)) h);
+        agree = λ p h. settled cs x y p gx gy s a (which p (cases_Bool (rewritten rewrites cs p)) h);
         keeps_one = λ p h. kept cs x p gx h;
         keeps_other = λ p h. kept cs y p gy h;
       }
@@ -118,7 +118,7 @@ module _ {C : Type 0} (reads rewrites : C → ℕ → Bool) where
   pub exposes : (cs : List C) (p : ℕ) → exposed reads rewrites cs p ≡ true → Exposes reads rewrites cs p
   unfolding exposed rewritten
   exposes [] p h = absurd (let z : ◌≡◌ {A = ℕ} 0 1 = cc in omega arith)
-  exposes (c ∷ cs) p h = go (tested (reads c p)) (tested (rewrites c p)) (λ q. exposes cs p q)
+  exposes (c ∷ cs) p h = go (cases_Bool (reads c p)) (cases_Bool (rewrites c p)) (λ q. exposes cs p q)
     where
       go : (reads c p ≡ true) ⊎ (reads c p ≡ false) → (rewrites c p ≡ true) ⊎ (rewrites c p ≡ false)
           → (exposed reads rewrites cs p ≡ true → Exposes reads rewrites cs p) → Exposes reads rewrites (c ∷ cs) p
@@ -141,8 +141,8 @@ module _ {C : Type 0} (reads rewrites : C → ℕ → Bool) where
   exposed_here [] c a p r w = simp r
   exposed_here (d ∷ b) c a p r w =
       or_right (reads d p) (not (rewrites d p) && exposed reads rewrites (b ++ c ∷ a) p)
-      (simp (or_none_left (rewrites d p) (rewritten rewrites b p) w)
-      (exposed_here b c a p r (or_none_right (rewrites d p) (rewritten rewrites b p) w)))
+      (simp (or_parts (rewrites d p) (rewritten rewrites b p) w).0
+      (exposed_here b c a p r (or_parts (rewrites d p) (rewritten rewrites b p) w).1))
 
   pub exposed_if : (cs : List C) (p : ℕ) → Exposes reads rewrites cs p → exposed reads rewrites cs p ≡ true
   exposed_if cs p e = rw e.is (exposed_here e.before e.call e.after p e.does e.earlier)

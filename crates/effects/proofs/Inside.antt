@@ -1,5 +1,6 @@
 -- Every row stands within the 182 places, so that no other place is read or rewritten: by the bounds of parents, lanes and flags, one
 -- clause for each call. Assumes nothing.
+use Rattle.std.specs.Prelude.{Option, Some, None}
 use mathlib.Core.Bool.{false}
 use mathlib.Core.Logic.{inr}
 use mathlib.Core.Path.{◌≡◌}
@@ -8,15 +9,14 @@ use native.Mathlib.Omega.{arith}
 use Rattle.instruction_set.specs.Registers.{part_of}
 use Rattle.instruction_set.specs.declared.InstructionArgument.TheVariants as arg
 use Rattle.instruction_set.specs.declared.Register.{Register}
-use Rattle.instruction_set.specs.declared.SomeRegister.{SomeRegister}
-use Rattle.instruction_set.specs.declared.SomeRegister.TheVariants.{Absent, Present}
 use Rattle.instruction_set.proofs.Bounds.{parent_below, reads_within, rewrites_within}
 use Rattle.arithmetic.specs.declared.Operation.{Operation}
 use Rattle.arithmetic.specs.declared.Operation.TheVariants.{Add, AddWithCarry, Subtract, SubtractWithBorrow, Compare}
 use Rattle.calls.specs.declared.Call.{Call}
 use Rattle.calls.specs.declared.Call.TheVariants.{ReadOperand, WriteOperand, EffectiveAddress, Push, Pop, ReadMemory, WriteMemory}
 use Rattle.calls.specs.declared.Call.TheVariants.{TestFlag, SetFlag, ComputeFlags, ComputeSizedFlags, Arithmetic}
-use Rattle.effects.specs.Rows.{spans, none, rsp_places, cr3_places, nothing, read_span, rewrite_span, part_span, flag_span, reads_of, rewrites_of, in_spans}
+use Rattle.effects.specs.Rows.{spans, none, rsp_places, cr3_places, nothing, read_span, rewrite_span, part_span, flag_span, reads_of}
+use Rattle.effects.specs.Rows.{rewrites_of, in_spans}
 use Rattle.effects.specs.Rows.{operation_reads, three_flags, Inside}
 use Rattle.effects.specs.declared.Span.{Span}
 use Rattle.effects.specs.declared.Spans.{Spans}
@@ -32,9 +32,9 @@ read_ends r = omega (arith, parent_below r, reads_within (part_of r))
 rewrite_ends : (r : Register) → Ends (rewrite_span r)
 rewrite_ends r = omega (arith, parent_below r, reads_within (part_of r), rewrites_within (part_of r))
 
-part_ends : (b : SomeRegister) → Ends (part_span b)
-part_ends Absent = omega arith
-part_ends (Present r) = read_ends r
+part_ends : (b : Option Register) → Ends (part_span b)
+part_ends None = omega arith
+part_ends (Some r) = read_ends r
 
 no_inside : Inside nothing
 no_inside = record { one = omega arith; two = omega arith; three = omega arith; four = omega arith }

@@ -1,10 +1,12 @@
 -- The rows of the table (RULES 8.2) are proved of what the calls do: for every call of `step`, one clause of `owes`. A call answers,
 -- leaves the store and renews the places of its rewrite row by its read row alone (and the store, if it reaches memory), and keeps every
 -- other place, refused or not. Shapes.antt says what each shape of call owes; here is what fills it. Assumes nothing.
-use mathlib.Core.Bool.{Bool, true, false, ◌||◌}
+use Rattle.std.specs.Prelude.{Option}
+use Rattle.instruction_set.specs.declared.Register.{Register}
+use mathlib.Core.Bool.{Bool, ◌||◌, or_comm}
 use mathlib.Core.List.{List, [], ◌∷◌}
 use mathlib.Core.Path.{◌≡◌, refl, ap, ◌∙◌}
-use Prim.Native.Nat.{ℕ, ◌+◌, ◌*◌, ◌%◌, ◌^◌, ◌<◌}
+use Prim.Native.Nat.{ℕ, ◌+◌, ◌*◌, ◌%◌, ◌^◌}
 use native.Mathlib.Nat.{mod-lt}
 use native.Mathlib.Omega.{arith}
 use lib.Dec.{eqb}
@@ -19,8 +21,6 @@ use Rattle.instruction_set.specs.declared.ArgumentSize.TheVariants.{Bit64}
 use Rattle.instruction_set.specs.declared.Flags.TheVariants.{Carry, Parity, Zero, Sign}
 use Rattle.instruction_set.specs.declared.InstructionArgument.{InstructionArgument}
 use Rattle.instruction_set.specs.declared.InstructionArgument.TheVariants as arg
-use Rattle.instruction_set.specs.declared.SomeRegister.{SomeRegister}
-use Rattle.instruction_set.specs.declared.SomeScale.{SomeScale}
 use Rattle.fields.specs.Parts.{low_bits}
 use Rattle.arithmetic.specs.Sums.{carry_taken, worked_of, computed_of}
 use Rattle.arithmetic.specs.declared.Operation.{Operation}
@@ -28,12 +28,12 @@ use Rattle.arithmetic.specs.declared.Operation.TheVariants.{Add, AddWithCarry, S
 use Rattle.arithmetic.specs.declared.Sum.{Sum}
 use Rattle.store.specs.Store.{Store}
 use Rattle.machine_state.specs.Address.{address_of}
-use Rattle.machine_state.specs.Answers.{Value, word, truth, outcome_of}
+use Rattle.machine_state.specs.Answers.{Value, word, truth, given_values}
 use Rattle.machine_state.specs.Flagged.{flag_in, set_flag}
 use Rattle.machine_state.specs.Machine.{read_reg, write_reg, event_of}
 use Rattle.machine_state.specs.Memory.{rsp as rspOf, cr3 as cr3Of, word_outcome, read_memory, write_memory, loaded, stored_at, read_operand}
 use Rattle.machine_state.specs.Memory.{leaves, write_operand, minus64, pushed, popped}
-use Rattle.machine_state.specs.Operating.{operation_answer, operated}
+use Rattle.machine_state.specs.Operating.{operation_given, operated}
 use Rattle.machine_state.specs.declared.Event.TheVariants.{Quiet}
 use Rattle.machine_state.specs.declared.MachineState.{MachineState}
 use Rattle.calls.specs.Step.{step}
@@ -41,7 +41,8 @@ use Rattle.calls.specs.declared.Call.{Call}
 use Rattle.calls.specs.declared.Call.TheVariants.{ReadOperand, WriteOperand, EffectiveAddress, Push, Pop, ReadMemory, WriteMemory}
 use Rattle.calls.specs.declared.Call.TheVariants.{TestFlag, SetFlag, ComputeFlags, ComputeSizedFlags, Arithmetic}
 use Rattle.effects.specs.Places.{WellTyped, does, reads, rewrites, reaches_memory, place_in, store_in, WellTypedState}
-use Rattle.effects.specs.Rows.{rsp_places, cr3_places, part_span, flag_span, rewrite_span, operation_reads, three_flags, reads_of, rewrites_of, reaches}
+use Rattle.effects.specs.Rows.{rsp_places, cr3_places, part_span, flag_span, rewrite_span, operation_reads, three_flags, reads_of}
+use Rattle.effects.specs.Rows.{rewrites_of, reaches}
 use Rattle.effects.specs.Rows.{in_span, in_spans}
 use Rattle.effects.specs.declared.Spans.{Spans}
 use Rattle.effects.proofs.Forgotten.{Owed}
@@ -53,7 +54,7 @@ use Rattle.effects.proofs.Shapes.{StackAccess, StackAlike, stack}
 use Rattle.effects.proofs.Within.{in_one, in_two, in_three, three_only, five_in_turn, five_flags_lem}
 
 -- ---- what the rows read
-module _ (b i : SomeRegister) (k : SomeScale) (d : ℤ) (m n : MachineState) where
+module _ (b i : Option Register) (k : Option ℕ) (d : ℤ) (m n : MachineState) where
   address_alike : (s : Spans) → s.one ≡ part_span b → s.two ≡ part_span i → AgreeWhere (in_spans s) m n
       → address_of m (arg.EffectiveAddress b i k d) ≡ address_of n (arg.EffectiveAddress b i k d)
   unfolding address_of
@@ -67,7 +68,7 @@ rsp_alike : (m n : MachineState) → WellTyped m → WellTyped n → Agrees rsp_
 rsp_alike m n g k h = parent_same m n 4 (omega arith) g k h
 
 -- ---- memory operands: by base, index and cr3
-memory_read : (b i : SomeRegister) (k : SomeScale) (d : ℤ) (z : ArgumentSize) (m n : MachineState) (s : Store) → WellTyped m → WellTyped n
+memory_read : (b i : Option Register) (k : Option ℕ) (d : ℤ) (z : ArgumentSize) (m n : MachineState) (s : Store) → WellTyped m → WellTyped n
     → Agree (ReadOperand (arg.EffectiveAddress b i k d) z) m n
     → Same (read_operand m s (arg.EffectiveAddress b i k d) z) (read_operand n s (arg.EffectiveAddress b i k d) z)
 unfolding read_operand reads_of
@@ -78,7 +79,7 @@ memory_read b i k d z m n s g q a =
     rw f (at_alike m n s e (address_of n (arg.EffectiveAddress b i k d)) (λ x. loaded m s x z) (λ x. loaded n s x z)
     (λ x. load_alike m n s e x x z refl))
 
-memory_written : (b i : SomeRegister) (k : SomeScale) (d : ℤ) (z : ArgumentSize) (v : ℕ) (m n : MachineState) (s : Store) → WellTyped m
+memory_written : (b i : Option Register) (k : Option ℕ) (d : ℤ) (z : ArgumentSize) (v : ℕ) (m n : MachineState) (s : Store) → WellTyped m
     → WellTyped n
     → Agree (WriteOperand (arg.EffectiveAddress b i k d) z v) m n
     → Same (write_operand m s (arg.EffectiveAddress b i k d) z v) (write_operand n s (arg.EffectiveAddress b i k d) z v)
@@ -94,7 +95,8 @@ memory_written b i k d z v m n s g q a =
 abbrev push : MachineState → Store → List ℕ → StackAccess
 push m s l = record { done = write_memory m s (minus64 (rspOf m) (length l)) l; to = minus64 (rspOf m) (length l) }
 
-push_alike : (m n : MachineState) (s : Store) (l : List ℕ) → WellTyped m → WellTyped n → Agree Push m n → StackAlike (push m s l) (push n s l)
+push_alike : (m n : MachineState) (s : Store) (l : List ℕ) → WellTyped m → WellTyped n → Agree Push m n
+    → StackAlike (push m s l) (push n s l)
 unfolding reads_of
 push_alike m n s l g k a =
     let row = reads_of Push in
@@ -114,22 +116,12 @@ pop_alike m n s l g k a =
     let r : rspOf m ≡ rspOf n = rsp_alike m n g k (λ p h. a p (in_one row p h)) in
     record { done = load_alike m n s e (rspOf m) (rspOf n) Bit64 r; to = ap (λ (x : ℕ). (x + 8) % 2 ^ 64) r }
 
-word_lt : (x : ℕ) → x % 2 ^ 64 < 2 ^ 64
-word_lt x = mod-lt x (pow_pos 64)
-
 -- ---- flags: the row names them in the order of their places, the call sets Zero first
-three : (a b c : Bool) → (a || (b || c)) ≡ ((b || c) || a)
-three true true c = refl
-three true false true = refl
-three true false false = refl
-three false true c = refl
-three false false true = refl
-three false false false = refl
-
-pub three_flags_lem : (p : ℕ) → in_spans three_flags p ≡ ((in_span (flag_span Zero) p || in_span (flag_span Sign) p) || in_span (flag_span Parity) p)
+pub three_flags_lem : (p : ℕ)
+    → in_spans three_flags p ≡ ((in_span (flag_span Zero) p || in_span (flag_span Sign) p) || in_span (flag_span Parity) p)
 three_flags_lem p =
     three_only (flag_span Parity) (flag_span Zero) (flag_span Sign) p
-    ∙ three (in_span (flag_span Parity) p) (in_span (flag_span Zero) p) (in_span (flag_span Sign) p)
+    ∙ or_comm (in_span (flag_span Parity) p) (in_span (flag_span Zero) p || in_span (flag_span Sign) p)
 
 -- a call that sets the flags of a result, whatever says Zero
 result_owes : (c : Call) (b : Bool) (x : ℕ) (z : ArgumentSize)
@@ -200,7 +192,7 @@ operation_owes o z a b =
     worked c = worked_of o (8 * bytes_of z) (a % 2 ^ (8 * bytes_of z)) (b % 2 ^ (8 * bytes_of z)) c
 
     says : Bool → Outcome Value
-    says c = outcome_of (operation_answer o (extend (8 * bytes_of z) (worked c).value))
+    says c = gives (given_values (operation_given o (extend (8 * bytes_of z) (worked c).value)))
 
 -- ---- every call pays: the row's reads are enough for its reply, and its rewrites are all that it changes
 pub owes : (c : Call) → Owes c
@@ -208,8 +200,8 @@ unfolding step pushed popped read_memory write_memory loaded reads_of rewrites_o
 owes (ReadOperand a z) = read_owes a z
 owes (WriteOperand a z v) = write_owes a z v
 owes (EffectiveAddress a) = address_owes a
-owes Push = stack Push push (λ m s l. refl) (λ m s l. (refl, word_lt _)) refl refl refl push_alike
-owes Pop = stack Pop pop (λ m s l. refl) (λ m s l. (refl, word_lt _)) refl refl refl pop_alike
+owes Push = stack Push push (λ m s l. refl) (λ m s l. (refl, mod-lt _ (pow_pos 64))) refl refl refl push_alike
+owes Pop = stack Pop pop (λ m s l. refl) (λ m s l. (refl, mod-lt _ (pow_pos 64))) refl refl refl pop_alike
 owes (ReadMemory x) =
     by_memory (ReadMemory x) refl refl (λ m s l. refl)
     (λ m n s l g k a. read_alike m n s (cr3_alike m n g k (λ p h. a p (in_one (reads_of (ReadMemory x)) p h))) x x l refl)

@@ -1,12 +1,13 @@
 -- What a machine's registers and flags are depends on their places alone; a change renews its places, by what it reads alone, and keeps
 -- all others. From the laws of lanes and of flags, once over the register and over the flag. Assumes nothing.
-use mathlib.Core.Bool.{Bool, true, false, ◌&&◌, ◌||◌}
+use Rattle.std.specs.Prelude.{Option, Some, None}
+use Rattle.std.proofs.lemmas.Bool.{cases_Bool, or_parts, agree_below, agree_below_at}
+use mathlib.Core.Bool.{Bool, true, false, ◌||◌}
 use mathlib.Core.List.{[], ◌∷◌}
 use mathlib.Core.Logic.{◌⊎◌, inl, inr, ⊎_elim}
 use mathlib.Core.Path.{◌≡◌, refl, sym, ap, ap₂, ◌∙◌}
-use Prim.Native.Nat.{ℕ, zero, suc, ◌+◌, ◌-◌, ◌*◌, ◌/◌, ◌%◌, ◌^◌, ◌≤◌, ◌<◌}
+use Prim.Native.Nat.{ℕ, ◌+◌, ◌-◌, ◌*◌, ◌/◌, ◌%◌, ◌^◌, ◌≤◌, ◌<◌}
 use native.Mathlib.Decide.{ℕ_discrete, dec_lt}
-use native.Mathlib.Nat.{not-suc-le-zero}
 use native.Mathlib.Omega.{arith}
 use lib.Dec.{leb, eqb}
 use lib.IntN.{ℤ}
@@ -14,8 +15,7 @@ use lib.ListN.{length, get_or, set, length-set}
 use lib.Seq.{get_or-set_same, get_or-set_other}
 use mir.Syntax.{w64}
 use mir.Val.{of_z}
-use borrow.Author.Tests.{leb-true, eqb-true, eqb-false, lt-ltb, le-ltb, ne_eqb}
-use Rattle.utils.proofs.Bools.{tested, and_left, and_right, or_none_left, or_none_right}
+use borrow.Author.Tests.{leb-true, lt-ltb, le-ltb, ne_eqb}
 use Rattle.utils.specs.Outcome.{gives}
 use Rattle.utils.specs.Word.{cut, put, lane}
 use Rattle.utils.proofs.Field.{put_inside, put_lt, cells_fix, cut_all, cut_mod}
@@ -26,10 +26,6 @@ use Rattle.instruction_set.specs.declared.Flags.{Flags}
 use Rattle.instruction_set.specs.declared.Flags.TheVariants.{Carry, Parity, Zero, Sign, Direction, Overflow}
 use Rattle.instruction_set.specs.declared.Register.{Register}
 use Rattle.instruction_set.specs.declared.Register.TheVariants.{RSP}
-use Rattle.instruction_set.specs.declared.SomeRegister.{SomeRegister}
-use Rattle.instruction_set.specs.declared.SomeRegister.TheVariants as reg
-use Rattle.instruction_set.specs.declared.SomeScale.{SomeScale}
-use Rattle.instruction_set.specs.declared.SomeScale.TheVariants as by
 use Rattle.instruction_set.proofs.Bounds.{parent_below, reads_within, rewrites_within}
 use Rattle.fields.specs.FlagBits.{bool_bit, bit_set, put_flag, sign_in, even_ones, result_flags}
 use Rattle.fields.specs.Parts.{write_of}
@@ -100,18 +96,19 @@ module _ (m n : MachineState) where
       ∙ cells_fix 8 (parent_at m i) (parent_at n i) 0 8
       (λ j l. let z : 0 + 8 * j ≡ 8 * j = omega arith in
       rw z
-      (sym (place_parent m i j b l) ∙ h (8 * i + j) (in_yes (parent_places i) (8 * i + j) (omega arith) (omega arith)) ∙ place_parent n i j b l))
+      (sym (place_parent m i j b l) ∙ h (8 * i + j) (in_yes (parent_places i) (8 * i + j) (omega arith) (omega arith))
+      ∙ place_parent n i j b l))
       ∙ cut_all (parent_at n i) 64 (gn.words i b)
 
-  pub base_same : (b : SomeRegister) → Agrees (part_span b) m n → base_of m b ≡ base_of n b
-  base_same reg.Absent h = refl
-  base_same (reg.Present r) h = register_same r h
+  pub base_same : (b : Option Register) → Agrees (part_span b) m n → base_of m b ≡ base_of n b
+  base_same None h = refl
+  base_same (Some r) h = register_same r h
 
-  pub sum_same : (b i : SomeRegister) (k : SomeScale) (d : ℤ) → Agrees (part_span b) m n → Agrees (part_span i) m n
+  pub sum_same : (b i : Option Register) (k : Option ℕ) (d : ℤ) → Agrees (part_span b) m n → Agrees (part_span i) m n
       → sum_of m b i k d ≡ sum_of n b i k d
-  sum_same b reg.Absent k d h g = ap (λ (x : ℕ). gives ((x + of_z w64 d) % 2 ^ 64 ∷ [])) (base_same b h)
-  sum_same b (reg.Present r) by.Absent d h g = refl
-  sum_same b (reg.Present r) (by.Present k) d h g =
+  sum_same b None k d h g = ap (λ (x : ℕ). gives ((x + of_z w64 d) % 2 ^ 64 ∷ [])) (base_same b h)
+  sum_same b (Some r) None d h g = refl
+  sum_same b (Some r) (Some k) d h g =
       ap₂ (λ (x y : ℕ). gives ((x + y * k + of_z w64 d) % 2 ^ 64 ∷ [])) (base_same b h) (register_same r g)
 
   pub flag_same : (f : Flags) → Agrees (flag_span f) m n → flag_in m f ≡ flag_in n f
@@ -144,13 +141,13 @@ pub and_then : (r : ℕ → Bool) (f g : MachineState → MachineState) (w v : �
 and_then r f g w v a b =
     record {
       good = λ m h. b.good (f m) (a.good m h);
-      keeps = λ m p h e. b.keeps (f m) p (a.good m h) (or_none_right (w p) (v p) e) ∙ a.keeps m p h (or_none_left (w p) (v p) e);
-      renews = λ m n p h k q e. go m n p h k q (tested (v p)) e;
+      keeps = λ m p h e. b.keeps (f m) p (a.good m h) (or_parts (w p) (v p) e).1 ∙ a.keeps m p h (or_parts (w p) (v p) e).0;
+      renews = λ m n p h k q e. go m n p h k q (cases_Bool (v p)) e;
     }
   where
     -- f's places agree after it, and the others as they did
     agree_after : (m n : MachineState) → WellTyped m → WellTyped n → AgreeWhere r m n → AgreeWhere r (f m) (f n)
-    agree_after m n h k q p t = pick (tested (w p))
+    agree_after m n h k q p t = pick (cases_Bool (w p))
       where
         pick : (w p ≡ true) ⊎ (w p ≡ false) → place (f m) p ≡ place (f n) p
         pick (inl y) = a.renews m n p h k q y
@@ -223,7 +220,8 @@ module _ (r : Register) (v : ℕ) where
       let k = p - (8 * parent_of r + first_lane (part_of r)) in
       let e : p ≡ 8 * parent_of r + (first_lane (part_of r) + (p - (8 * parent_of r + first_lane (part_of r)))) = omega arith in
       ap (place (write_reg m r v)) e
-      ∙ place_parent (write_reg m r v) (parent_of r) (first_lane (part_of r) + (p - (8 * parent_of r + first_lane (part_of r)))) b (omega arith)
+      ∙ place_parent (write_reg m r v) (parent_of r) (first_lane (part_of r) + (p - (8 * parent_of r + first_lane (part_of r)))) b
+      (omega arith)
       ∙ write_in m r v g.parents (p - (8 * parent_of r + first_lane (part_of r))) (omega arith)
 
   pub register_renews : (by : ℕ → Bool) → Renews by (λ m. write_reg m r v) (in_span (rewrite_span r))
@@ -246,26 +244,12 @@ pub rsp_written : (m : MachineState) (x : ℕ) → WellTyped m → x < 2 ^ 64 �
 unfolding write_reg write_of row
 rsp_written m x g h = ap (λ (y : ℕ). with_regs m (set m.regs 4 y)) (sym (put_all (parent_at m 4) x (g.words 4 (omega arith)) h))
 
--- a flag: what passes at each number below n
-below : ℕ → (ℕ → Bool) → Bool
-below zero f = true
-below (suc n) f = f n && below n f
-
-below_at : (n : ℕ) (f : ℕ → Bool) → below n f ≡ true → (k : ℕ) → k < n → f k ≡ true
-unfolding below
-below_at zero f h k l = absurd (not-suc-le-zero l)
-below_at (suc n) f h k l = go (tested (eqb k n)) (λ q. below_at n f (and_right (f n) (below n f) h) k q)
-  where
-    go : (eqb k n ≡ true) ⊎ (eqb k n ≡ false) → (k < n → f k ≡ true) → f k ≡ true
-    go (inl t) r = ap f (eqb-true k n t) ∙ and_left (f n) (below n f) h
-    go (inr e) r = let ne : k ≡ n → ⊥ = eqb-false k n e in r (omega (arith, ne))
-
--- each other field of rflags stands wholly below the flag's bit or above it
+-- a flag: each other field of rflags stands wholly below the flag's bit or above it
 away : Flags → ℕ → Bool
 away f j = eqb j (flag_place f - 176) || (leb (bit_at j + bits_at j) (bit_of f) || leb (bit_of f + 1) (bit_at j))
 
-all_away : (f : Flags) → below 10 (away f) ≡ true
-unfolding below away bit_at bits_at
+all_away : (f : Flags) → agree_below (away f) (λ j. true) 10 ≡ true
+unfolding away bit_at bits_at
 all_away Carry = refl
 all_away Parity = refl
 all_away Zero = refl
@@ -276,10 +260,10 @@ all_away Overflow = refl
 module _ (f : Flags) (b : Bool) where
   beside : (j : ℕ) → j < 10 → (j ≡ flag_place f - 176 → ⊥) → (bit_at j + bits_at j ≤ bit_of f) ⊎ (bit_of f + 1 ≤ bit_at j)
   unfolding away
-  beside j l ne = pick (tested (leb (bit_at j + bits_at j) (bit_of f)))
+  beside j l ne = pick (cases_Bool (leb (bit_at j + bits_at j) (bit_of f)))
     where
       rule : (eqb j (flag_place f - 176) || (leb (bit_at j + bits_at j) (bit_of f) || leb (bit_of f + 1) (bit_at j))) ≡ true
-      rule = below_at 10 (away f) (all_away f) j l
+      rule = agree_below_at (away f) (λ j. true) 10 j (all_away f) l
 
       pick : (leb (bit_at j + bits_at j) (bit_of f) ≡ true) ⊎ (leb (bit_at j + bits_at j) (bit_of f) ≡ false)
           → (bit_at j + bits_at j ≤ bit_of f) ⊎ (bit_of f + 1 ≤ bit_at j)

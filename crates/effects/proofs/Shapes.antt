@@ -16,7 +16,7 @@ use Rattle.fields.specs.Parts.{memory_value}
 use Rattle.mmu.specs.Calls.{read_outcome, read_out, write_outcome, write_store, shown_of}
 use Rattle.store.specs.Store.{Store}
 use Rattle.walk.specs.Walk.{physical}
-use Rattle.machine_state.specs.Answers.{Value, Result}
+use Rattle.machine_state.specs.Answers.{Value, CallResult}
 use Rattle.machine_state.specs.Memory.{cr3 as cr3Of, with_rsp, leaves, word_outcome, event_shown, read_memory, write_memory, valued, loaded}
 use Rattle.machine_state.specs.Memory.{stored_at, at_address, rsp_if_accepted}
 use Rattle.machine_state.specs.declared.Event.{Event}
@@ -46,7 +46,8 @@ pub record Changes (c : Call) : Type 0 where
   pub good : (m : MachineState) (s : Store) (l : List ℕ) → WellTyped m → WellTyped (step c m s l).machine
   pub keeps : (m : MachineState) (s : Store) (l : List ℕ) (p : ℕ) → WellTyped m → rewritten c p ≡ false
       → place (step c m s l).machine p ≡ place m p
-  pub renews : (m n : MachineState) (s t : Store) (l : List ℕ) (p : ℕ) → WellTyped m → WellTyped n → Agree c m n → (reaches c ≡ true → s ≡ t)
+  pub renews : (m n : MachineState) (s t : Store) (l : List ℕ) (p : ℕ) → WellTyped m → WellTyped n → Agree c m n
+      → (reaches c ≡ true → s ≡ t)
       → rewritten c p ≡ true → place (step c m s l).machine p ≡ place (step c n t l).machine p
 
 pub record Replies (c : Call) : Type 0 where
@@ -97,7 +98,7 @@ pub by_itself : (c : Call) (e : Event) (f : MachineState → MachineState) (o : 
     → Renews (read c) f (rewritten c) → ((m n : MachineState) → Agree c m n → o m ≡ o n) → Owes c
 by_itself c e f o is r same =
     record {
-      changes = by_function c f (λ m s l. ap (λ (x : Result). x.machine) (is m s l)) r;
+      changes = by_function c f (λ m s l. ap (λ (x : CallResult). x.machine) (is m s l)) r;
       replies = record {
         stays = λ m s l h. stored m s l;
         moves = λ m n s t l g k a q. stored m s l ∙ q ∙ sym (stored n t l);
@@ -108,7 +109,7 @@ by_itself c e f o is r same =
     }
   where
     stored : (m : MachineState) (s : Store) (l : List ℕ) → (step c m s l).store ≡ s
-    stored m s l = ap (λ (x : Result). x.store) (is m s l)
+    stored m s l = ap (λ (x : CallResult). x.store) (is m s l)
 
 -- one that leaves the machine, and one that answers nothing
 pub answers_only : (c : Call) (o : MachineState → Outcome Value)
@@ -117,11 +118,12 @@ pub answers_only : (c : Call) (o : MachineState → Outcome Value)
 answers_only c o is row same = by_itself c Quiet (λ m. m) o is (unmoved c row) same
 
 pub changes_only : (c : Call) (e : Event) (f : MachineState → MachineState)
-    → ((m : MachineState) (s : Store) (l : List ℕ) → step c m s l ≡ leaves (f m) s l e (gives [])) → Renews (read c) f (rewritten c) → Owes c
+    → ((m : MachineState) (s : Store) (l : List ℕ) → step c m s l ≡ leaves (f m) s l e (gives [])) → Renews (read c) f (rewritten c)
+    → Owes c
 changes_only c e f is r = by_itself c e f (λ m. gives []) is r (λ m n a. refl)
 
 -- ---- what a call that reaches memory leaves, but for the machine
-pub record Same (r q : Result) : Type 0 where
+pub record Same (r q : CallResult) : Type 0 where
   pub reply : call_answer r ≡ call_answer q
   pub store : r.store ≡ q.store
 
@@ -138,7 +140,8 @@ reached c e h =
 -- a call that reaches memory and leaves the machine as it is
 pub by_memory : (c : Call) → rewrites_of c ≡ nothing → reaches c ≡ true
     → ((m : MachineState) (s : Store) (l : List ℕ) → (step c m s l).machine ≡ m)
-    → ((m n : MachineState) (s : Store) (l : List ℕ) → WellTyped m → WellTyped n → Agree c m n → Same (step c m s l) (step c n s l)) → Owes c
+    → ((m n : MachineState) (s : Store) (l : List ℕ) → WellTyped m → WellTyped n → Agree c m n → Same (step c m s l) (step c n s l))
+    → Owes c
 by_memory c w r is same = record { changes = still c w is; replies = reached c r same }
 
 -- memory is read and written by cr3, the address and the store
@@ -147,7 +150,8 @@ module _ (m n : MachineState) (s : Store) (e : cr3Of m ≡ cr3Of n) where
   unfolding read_memory
   read_alike a b l f =
       record {
-        reply = ap₂ (λ (x y : ℕ). record { outcome = word_outcome (read_outcome s (length l)); event = Quiet; lent = read_out s x y l }) e f;
+        reply =
+            ap₂ (λ (x y : ℕ). record { outcome = word_outcome (read_outcome s (length l)); event = Quiet; lent = read_out s x y l }) e f;
         store = refl;
       }
 
@@ -156,7 +160,10 @@ module _ (m n : MachineState) (s : Store) (e : cr3Of m ≡ cr3Of n) where
   write_alike a b l f =
       let p : physical s (cr3Of m) a ≡ physical s (cr3Of n) b = ap₂ (physical s) e f in
       record {
-        reply = ap (λ (x : ℕ). record { outcome = word_outcome (write_outcome s x (length l)); event = event_shown (shown_of s x l); lent = l }) p;
+        reply =
+            ap
+            (λ (x : ℕ). record { outcome = word_outcome (write_outcome s x (length l)); event = event_shown (shown_of s x l); lent = l })
+            p;
         store = ap (λ (x : ℕ). write_store s x l) p;
       }
 
@@ -178,10 +185,11 @@ module _ (m n : MachineState) (s : Store) (e : cr3Of m ≡ cr3Of n) where
       record { reply = ap (λ (q : CallAnswer). record { outcome = q.outcome; event = q.event; lent = [] }) h.reply; store = h.store }
 
   -- at an address, or its refusal
-  pub at_alike : (o : Outcome ℕ) (go to : ℕ → Result) → ((a : ℕ) → Same (go a) (to a)) → Same (at_address m s o go) (at_address n s o to)
+  pub at_alike : (o : Outcome ℕ) (go to : ℕ → CallResult) → ((a : ℕ) → Same (go a) (to a))
+      → Same (at_address m s o go) (at_address n s o to)
   at_alike o go to h = pick (accepted o) o.values
     where
-      refused : MachineState → Result
+      refused : MachineState → CallResult
       refused x = leaves x s [] Quiet (word_outcome o)
 
       pick : (b : Bool) (vs : List ℕ) → Same (first_if b vs go (refused m)) (first_if b vs to (refused n))
@@ -198,7 +206,7 @@ pub store_still : (m : MachineState) (s : Store) (a : ℕ) (z : ArgumentSize) (v
 unfolding stored_at write_memory
 store_still m s a z v = refl
 
-pub at_still : (m : MachineState) (s : Store) (o : Outcome ℕ) (go : ℕ → Result) → ((a : ℕ) → (go a).machine ≡ m)
+pub at_still : (m : MachineState) (s : Store) (o : Outcome ℕ) (go : ℕ → CallResult) → ((a : ℕ) → (go a).machine ≡ m)
     → (at_address m s o go).machine ≡ m
 at_still m s o go h = pick (accepted o) o.values
   where
@@ -208,7 +216,7 @@ at_still m s o go h = pick (accepted o) o.values
     pick false vs = refl
 
 -- a reply with the bytes that were lent, where the call lends none
-pub lent_back : {r q : Result} (l : List ℕ) → Same r q → Same (with_lent l r) (with_lent l q)
+pub lent_back : {r q : CallResult} (l : List ℕ) → Same r q → Same (with_lent l r) (with_lent l q)
 lent_back l h =
     record { reply = ap (λ (x : CallAnswer). record { outcome = x.outcome; event = x.event; lent = l }) h.reply; store = h.store }
 
@@ -242,17 +250,17 @@ rsp_keeps false m x p g l h = refl
 
 -- what a push or a pop does, apart from rsp: an access, and where rsp goes after it
 pub record StackAccess : Type 0 where
-  pub done : Result
+  pub done : CallResult
   pub to : ℕ
 
 pub record StackAlike (a b : StackAccess) : Type 0 where
   pub done : Same a.done b.done
   pub to : a.to ≡ b.to
 
-moved_alike : {r q : Result} (x y : ℕ) → Same r q → Same (rsp_if_accepted r x) (rsp_if_accepted q y)
+moved_alike : {r q : CallResult} (x y : ℕ) → Same r q → Same (rsp_if_accepted r x) (rsp_if_accepted q y)
 moved_alike x y h = record { reply = h.reply; store = h.store }
 
-accepted_alike : {r q : Result} → Same r q → accepted r.outcome ≡ accepted q.outcome
+accepted_alike : {r q : CallResult} → Same r q → accepted r.outcome ≡ accepted q.outcome
 accepted_alike h = ap (λ (x : CallAnswer). accepted x.outcome) h.reply
 
 pub stack : (c : Call) (access : MachineState → Store → List ℕ → StackAccess)
@@ -291,5 +299,5 @@ stack c access is plain w r o same =
 
     ends : (m : MachineState) (s : Store) (l : List ℕ) → (step c m s l).machine ≡ cond (ok m s l) (with_rsp m (to m s l)) m
     ends m s l =
-        ap (λ (x : Result). x.machine) (is m s l)
+        ap (λ (x : CallResult). x.machine) (is m s l)
         ∙ ap (λ (y : MachineState). cond (ok m s l) (with_rsp y (to m s l)) y) (plain m s l).0

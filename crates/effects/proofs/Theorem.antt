@@ -55,7 +55,8 @@ none_rewritten_above (a ∷ rest) p h =
 -- so that whatever the list, the rest of the machine keeps what it had
 pub rest_kept : (acts : List Act) (x : State) (p : ℕ) → WellTyped x.machine → 182 ≤ p
     → place (end does acts x).machine p ≡ place x.machine p
-rest_kept acts x p g h = kept reads rewrites reaches_memory does store_in place_in WellTypedState owed acts x p g (none_rewritten_above acts p h)
+rest_kept acts x p g h =
+    kept reads rewrites reaches_memory does store_in place_in WellTypedState owed acts x p g (none_rewritten_above acts p h)
 
 pub tables_kept : (acts : List Act) (x : State) → WellTyped x.machine
     → ((end does acts x).machine.gdt ≡ x.machine.gdt) × ((end does acts x).machine.idt ≡ x.machine.idt)

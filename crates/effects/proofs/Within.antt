@@ -6,7 +6,7 @@ use Prim.Native.Nat.{ℕ, ◌+◌, ◌≤◌, ◌<◌}
 use native.Mathlib.Omega.{arith}
 use lib.Dec.{ltb, leb, ltb→lt, leb→le}
 use borrow.Author.Tests.{ltb-true, ltb-false, leb-true, leb-false, lt-ltb, le-ltb, le-leb, lt-leb}
-use Rattle.utils.proofs.Bools.{tested, and_left, and_right, and_none, or_left, or_right}
+use Rattle.std.proofs.lemmas.Bool.{cases_Bool, and_parts, and_cases, or_left, or_right}
 use Rattle.instruction_set.specs.declared.Flags.{Flags}
 use Rattle.instruction_set.specs.declared.Flags.TheVariants.{Carry, Parity, Zero, Sign, Overflow}
 use Rattle.instruction_set.proofs.Arms.{all}
@@ -17,11 +17,11 @@ use Rattle.effects.specs.declared.Spans.{Spans}
 
 pub in_low : (s : Span) (p : ℕ) → in_span s p ≡ true → s.start ≤ p
 unfolding in_span
-in_low s p h = leb-true s.start p (and_left (leb s.start p) (ltb p (s.start + s.count)) h)
+in_low s p h = leb-true s.start p (and_parts (leb s.start p) (ltb p (s.start + s.count)) h).0
 
 pub in_high : (s : Span) (p : ℕ) → in_span s p ≡ true → p < s.start + s.count
 unfolding in_span
-in_high s p h = ltb-true p (s.start + s.count) (and_right (leb s.start p) (ltb p (s.start + s.count)) h)
+in_high s p h = ltb-true p (s.start + s.count) (and_parts (leb s.start p) (ltb p (s.start + s.count)) h).1
 
 pub in_yes : (s : Span) (p : ℕ) → s.start ≤ p → p < s.start + s.count → in_span s p ≡ true
 unfolding in_span
@@ -31,7 +31,7 @@ pub in_no : (s : Span) (p : ℕ) → in_span s p ≡ false → (p < s.start) ⊎
 unfolding in_span
 in_no s p h =
     ⊎_elim (λ e. inl (leb-false s.start p e)) (λ e. inr (ltb-false p (s.start + s.count) e))
-    (and_none (leb s.start p) (ltb p (s.start + s.count)) h)
+    (and_cases (leb s.start p) (ltb p (s.start + s.count)) h)
 
 pub in_out : (s : Span) (p : ℕ) → (p < s.start) ⊎ (s.start + s.count ≤ p) → in_span s p ≡ false
 unfolding in_span
@@ -73,7 +73,7 @@ three_only a b c p = simp (none_in p, or-false)
 
 -- a span one place longer
 span_next : (a n p : ℕ) → in_span (span a (n + 1)) p ≡ (in_span (span a n) p || in_span (span (a + n) 1) p)
-span_next a n p = go (tested (in_span (span a n) p)) (tested (in_span (span (a + n) 1) p))
+span_next a n p = go (cases_Bool (in_span (span a n) p)) (cases_Bool (in_span (span (a + n) 1) p))
   where
     go : (in_span (span a n) p ≡ true) ⊎ (in_span (span a n) p ≡ false)
         → (in_span (span (a + n) 1) p ≡ true) ⊎ (in_span (span (a + n) 1) p ≡ false)

@@ -3,7 +3,7 @@ use Rattle.std.specs.Prelude.{Bool, cond, List, [], ◌∷◌, ℕ, ◌-◌, ◌
 use Rattle.utils.specs.Outcome.{Outcome}
 use Rattle.utils.specs.Word.{cut, lane}
 use Rattle.store.specs.Store.{Store}
-use Rattle.machine_state.specs.Answers.{Value, Result}
+use Rattle.machine_state.specs.Answers.{Value, CallResult}
 use Rattle.machine_state.specs.Machine.{parent_at}
 use Rattle.machine_state.specs.declared.Event.{Event}
 use Rattle.machine_state.specs.declared.MachineState.{MachineState}
@@ -50,7 +50,7 @@ pub record CallAnswer : Type 0 where
   pub event : Event
   pub lent : List ℕ
 
-abbrev pub call_answer : Result → CallAnswer
+abbrev pub call_answer : CallResult → CallAnswer
 call_answer r = record { outcome = r.outcome; event = r.event; lent = r.lent }
 
 -- what the call does is `step`, which the contract of `calls::perform` gives

@@ -1,6 +1,6 @@
 -- The table of calls (RULES 8.2): which places each call reads and rewrites, and whether it reaches memory, refused or not (RULES 8.3).
 -- What a call does (`step` of the crate calls) knows nothing of this; the rows are proved of it in proofs/Owed.antt.
-use Rattle.std.specs.Prelude.{Bool, true, false, ◌&&◌, ◌||◌, ℕ, ◌+◌, ◌*◌, ◌≤◌, ltb, leb}
+use Rattle.std.specs.Prelude.{Bool, true, false, ◌&&◌, ◌||◌, ℕ, ◌+◌, ◌*◌, ◌≤◌, ltb, leb, Option, Some, None}
 use Rattle.instruction_set.specs.Registers.{parent_of, part_of, first_lane, lanes_read, lanes_rewritten}
 use Rattle.instruction_set.specs.Flags.{flag_number}
 use Rattle.instruction_set.specs.declared.Flags.{Flags}
@@ -8,8 +8,6 @@ use Rattle.instruction_set.specs.declared.Flags.TheVariants.{Carry, Parity, Zero
 use Rattle.instruction_set.specs.declared.InstructionArgument.{InstructionArgument}
 use Rattle.instruction_set.specs.declared.InstructionArgument.TheVariants as arg
 use Rattle.instruction_set.specs.declared.Register.{Register}
-use Rattle.instruction_set.specs.declared.SomeRegister.{SomeRegister}
-use Rattle.instruction_set.specs.declared.SomeRegister.TheVariants.{Absent, Present}
 use Rattle.arithmetic.specs.declared.Operation.{Operation}
 use Rattle.arithmetic.specs.declared.Operation.TheVariants.{Add, AddWithCarry, Subtract, SubtractWithBorrow, Compare}
 use Rattle.calls.specs.declared.Call.{Call}
@@ -45,9 +43,9 @@ abbrev pub rewrite_span : Register → Span
 rewrite_span r = span (8 * parent_of r + first_lane (part_of r)) (lanes_rewritten (part_of r))
 
 -- base or index
-abbrev pub part_span : SomeRegister → Span
-part_span Absent = none
-part_span (Present r) = read_span r
+abbrev pub part_span : Option Register → Span
+part_span None = none
+part_span (Some r) = read_span r
 
 -- the flags' places follow those of the 22 parents (RULES 8.1)
 abbrev pub flag_place : Flags → ℕ

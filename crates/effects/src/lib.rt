@@ -6,26 +6,29 @@
 // It carries RULES 8.1 to 8.4.
 #![tactic(auto)]
 
-ghost use Rattle.std.specs.Prelude.{◌≡◌};
-ghost use Rattle.effects.specs.Rows.{rsp_places, cr3_places, flag_place, spans, none, read_span, rewrite_span, part_span, flag_span};
+ghost use Rattle.std.specs.Prelude.{◌≡◌, ◌+◌, ◌*◌};
+ghost use Rattle.instruction_set.specs.Registers.{parent_of, part_of, first_lane};
+ghost use Rattle.effects.specs.Rows.{rsp_places, cr3_places, flag_place, span, spans, none, read_span, rewrite_span, part_span, flag_span};
 ghost use Rattle.effects.specs.Rows.{address_reads, operand_reads, operand_rewrites, operation_reads, three_flags, five_flags};
 ghost use Rattle.effects.specs.Rows.{reads_of, rewrites_of, operand_reaches, reaches};
 
 use arithmetic::Operation;
 use calls::Call;
-use instruction_set::{Flags, InstructionArgument, Register, SomeRegister};
+use instruction_set::{Flags, InstructionArgument, Register};
 
 // The place of the first flag.
 const FIRST_FLAG: usize = 176;
 
-// So many places from one on (RULES 8.1).
+// So many places from one on (RULES 8.1). That they end within the 182 is asked in six private contracts of exposed and neighbours
+// (`Inside`). It is no ghost field: each row of specs/Rows.antt, which a reader must believe, would have to carry its proof.
 #[derive(Clone, Copy)]
 pub struct Span {
     pub start: usize,
     pub count: usize,
 }
 
-// What a call reads, or rewrites: at most four spans; a span of no places stands for none.
+// What a call reads, or rewrites: at most four spans; a span of no places stands for none. Four fields are plainer than an array: in a
+// definition an array is a list, and every law of rows would ask its length.
 #[derive(Clone, Copy)]
 pub struct Spans {
     pub one: Span,
@@ -34,42 +37,54 @@ pub struct Spans {
     pub four: Span,
 }
 
+// No place.
+const NONE: Span = Span { start: 0, count: 0 };
+
+// So many of a register's lanes, from the lowest of its part on.
+#[tactic(auto, using(instruction_set::proofs::Bounds::parent_below, instruction_set::proofs::Bounds::reads_within))]
+fn lane_span(register: Register, count: usize) -> Span
+    ensures { result ≡ span (8 * parent_of register + first_lane (part_of register)) count }
+{
+    Span {
+        start: 8 * instruction_set::get_parent(register)
+            + instruction_set::first_lane(instruction_set::get_part(register)),
+        count,
+    }
+}
+
 fn read_span(register: Register) -> Span
     ensures { result ≡ read_span register }
 {
-    let part = instruction_set::get_part(register);
-    Span {
-        start: 8 * instruction_set::get_parent(register) + instruction_set::first_lane(part),
-        count: instruction_set::lanes_read(part),
-    }
+    lane_span(
+        register,
+        instruction_set::lanes_read(instruction_set::get_part(register)),
+    )
 }
 
 fn rewrite_span(register: Register) -> Span
     ensures { result ≡ rewrite_span register }
 {
-    let part = instruction_set::get_part(register);
-    Span {
-        start: 8 * instruction_set::get_parent(register) + instruction_set::first_lane(part),
-        count: instruction_set::lanes_rewritten(part),
-    }
+    lane_span(
+        register,
+        instruction_set::lanes_rewritten(instruction_set::get_part(register)),
+    )
 }
 
-fn part_span(register: SomeRegister) -> Span
+fn part_span(register: Option<Register>) -> Span
     ensures { result ≡ part_span register }
 {
-    match register {
-        SomeRegister::Absent => Span { start: 0, count: 0 },
-        SomeRegister::Present(name) => read_span(name),
-    }
+    register.map_or(NONE, read_span)
 }
 
 // RSP and CR3 are wholly read, and RSP wholly rewritten.
+#[tactic(auto, unfolding(instruction_set::specs::Registers::row))]
 fn rsp_places() -> Span
     ensures { result ≡ rsp_places }
 {
     read_span(Register::RSP)
 }
 
+#[tactic(auto, unfolding(instruction_set::specs::Registers::row))]
 fn cr3_places() -> Span
     ensures { result ≡ cr3_places }
 {
@@ -95,25 +110,24 @@ fn flag_span(flag: Flags) -> Span
 fn two_spans(one: Span, two: Span) -> Spans
     ensures { result ≡ spans one two none none }
 {
-    let none = Span { start: 0, count: 0 };
     Spans {
         one,
         two,
-        three: none,
-        four: none,
+        three: NONE,
+        four: NONE,
     }
 }
 
 fn one_span(one: Span) -> Spans
     ensures { result ≡ spans one none none none }
 {
-    two_spans(one, Span { start: 0, count: 0 })
+    two_spans(one, NONE)
 }
 
 fn no_spans() -> Spans
     ensures { result ≡ spans none none none none }
 {
-    one_span(Span { start: 0, count: 0 })
+    one_span(NONE)
 }
 
 // The base and index lanes of a memory operand, and what its call reads besides; a register or an immediate has none of these.
@@ -121,18 +135,13 @@ fn address_reads(argument: InstructionArgument, besides: Span) -> Spans
     ensures { result ≡ address_reads argument besides }
 {
     match argument {
-        InstructionArgument::Immediate { immediate: _ } => no_spans(),
-        InstructionArgument::Register { register: _ } => no_spans(),
-        InstructionArgument::EffectiveAddress {
-            base,
-            index,
-            scale: _,
-            displacement: _,
-        } => Spans {
+        InstructionArgument::Immediate { .. } => no_spans(),
+        InstructionArgument::Register { .. } => no_spans(),
+        InstructionArgument::EffectiveAddress { base, index, .. } => Spans {
             one: part_span(base),
             two: part_span(index),
             three: besides,
-            four: Span { start: 0, count: 0 },
+            four: NONE,
         },
     }
 }
@@ -141,14 +150,9 @@ fn operand_reads(argument: InstructionArgument) -> Spans
     ensures { result ≡ operand_reads argument }
 {
     match argument {
-        InstructionArgument::Immediate { immediate: _ } => no_spans(),
+        InstructionArgument::Immediate { .. } => no_spans(),
         InstructionArgument::Register { register } => one_span(read_span(register)),
-        InstructionArgument::EffectiveAddress {
-            base: _,
-            index: _,
-            scale: _,
-            displacement: _,
-        } => { address_reads(argument, cr3_places()) }
+        InstructionArgument::EffectiveAddress { .. } => address_reads(argument, cr3_places()),
     }
 }
 
@@ -156,14 +160,9 @@ fn operand_rewrites(argument: InstructionArgument) -> Spans
     ensures { result ≡ operand_rewrites argument }
 {
     match argument {
-        InstructionArgument::Immediate { immediate: _ } => no_spans(),
+        InstructionArgument::Immediate { .. } => no_spans(),
         InstructionArgument::Register { register } => one_span(rewrite_span(register)),
-        InstructionArgument::EffectiveAddress {
-            base: _,
-            index: _,
-            scale: _,
-            displacement: _,
-        } => no_spans(),
+        InstructionArgument::EffectiveAddress { .. } => no_spans(),
     }
 }
 
@@ -188,7 +187,7 @@ fn three_flags() -> Spans
         one: flag_span(Flags::Parity),
         two: flag_span(Flags::Zero),
         three: flag_span(Flags::Sign),
-        four: Span { start: 0, count: 0 },
+        four: NONE,
     }
 }
 
@@ -203,110 +202,72 @@ fn five_flags() -> Spans
     two_spans(four, flag_span(Flags::Overflow))
 }
 
-// The places that a call reads (RULES 8.2), refused or not (RULES 8.3).
+// The places that a call reads (RULES 8.2), refused or not (RULES 8.3). Here and below each call has a line of its own, as in the table of
+// RULES 8.2.
+#[tactic(auto, unfolding(crate::specs::Rows::reads_of))]
 pub fn reads_of(call: Call) -> Spans
     ensures { result ≡ reads_of call }
 {
-    let rsp = rsp_places();
-    let cr3 = cr3_places();
     match call {
-        Call::ReadOperand { argument, size: _ } => operand_reads(argument),
-        Call::WriteOperand {
-            argument,
-            size: _,
-            value: _,
-        } => address_reads(argument, cr3),
-        Call::EffectiveAddress { argument } => address_reads(argument, Span { start: 0, count: 0 }),
-        Call::Push => two_spans(rsp, cr3),
-        Call::Pop => two_spans(rsp, cr3),
-        Call::ReadMemory { address: _ } => one_span(cr3),
-        Call::WriteMemory { address: _ } => one_span(cr3),
+        Call::ReadOperand { argument, .. } => operand_reads(argument),
+        Call::WriteOperand { argument, .. } => address_reads(argument, cr3_places()),
+        Call::EffectiveAddress { argument } => address_reads(argument, NONE),
+        Call::Push => two_spans(rsp_places(), cr3_places()),
+        Call::Pop => two_spans(rsp_places(), cr3_places()),
+        Call::ReadMemory { .. } => one_span(cr3_places()),
+        Call::WriteMemory { .. } => one_span(cr3_places()),
         Call::TestFlag { flag } => one_span(flag_span(flag)),
-        Call::SetFlag { flag: _, value: _ } => no_spans(),
-        Call::ComputeFlags { result: _, size: _ } => no_spans(),
-        Call::ComputeSizedFlags { result: _, size: _ } => no_spans(),
-        Call::Arithmetic {
-            operation,
-            size: _,
-            first: _,
-            second: _,
-        } => operation_reads(operation),
+        Call::SetFlag { .. } => no_spans(),
+        Call::ComputeFlags { .. } => no_spans(),
+        Call::ComputeSizedFlags { .. } => no_spans(),
+        Call::Arithmetic { operation, .. } => operation_reads(operation),
     }
 }
 
 // The places that a call rewrites (RULES 8.2), refused or not (RULES 8.3).
+#[tactic(auto, unfolding(crate::specs::Rows::rewrites_of))]
 pub fn rewrites_of(call: Call) -> Spans
     ensures { result ≡ rewrites_of call }
 {
-    let rsp = rsp_places();
     match call {
-        Call::ReadOperand {
-            argument: _,
-            size: _,
-        } => no_spans(),
-        Call::WriteOperand {
-            argument,
-            size: _,
-            value: _,
-        } => operand_rewrites(argument),
-        Call::EffectiveAddress { argument: _ } => no_spans(),
-        Call::Push => one_span(rsp),
-        Call::Pop => one_span(rsp),
-        Call::ReadMemory { address: _ } => no_spans(),
-        Call::WriteMemory { address: _ } => no_spans(),
-        Call::TestFlag { flag: _ } => no_spans(),
-        Call::SetFlag { flag, value: _ } => one_span(flag_span(flag)),
-        Call::ComputeFlags { result: _, size: _ } => three_flags(),
-        Call::ComputeSizedFlags { result: _, size: _ } => three_flags(),
-        Call::Arithmetic {
-            operation: _,
-            size: _,
-            first: _,
-            second: _,
-        } => five_flags(),
+        Call::ReadOperand { .. } => no_spans(),
+        Call::WriteOperand { argument, .. } => operand_rewrites(argument),
+        Call::EffectiveAddress { .. } => no_spans(),
+        Call::Push => one_span(rsp_places()),
+        Call::Pop => one_span(rsp_places()),
+        Call::ReadMemory { .. } => no_spans(),
+        Call::WriteMemory { .. } => no_spans(),
+        Call::TestFlag { .. } => no_spans(),
+        Call::SetFlag { flag, .. } => one_span(flag_span(flag)),
+        Call::ComputeFlags { .. } => three_flags(),
+        Call::ComputeSizedFlags { .. } => three_flags(),
+        Call::Arithmetic { .. } => five_flags(),
     }
 }
 
 fn operand_reaches(argument: InstructionArgument) -> bool
     ensures { result ≡ operand_reaches argument }
 {
-    match argument {
-        InstructionArgument::Immediate { immediate: _ } => false,
-        InstructionArgument::Register { register: _ } => false,
-        InstructionArgument::EffectiveAddress {
-            base: _,
-            index: _,
-            scale: _,
-            displacement: _,
-        } => true,
-    }
+    matches!(argument, InstructionArgument::EffectiveAddress { .. })
 }
 
 // Whether a call reaches memory (RULES 8.2): by its kind, refused or not.
+#[tactic(auto, unfolding(crate::specs::Rows::reaches))]
 pub fn reaches_memory(call: Call) -> bool
     ensures { result ≡ reaches call }
 {
     match call {
-        Call::ReadOperand { argument, size: _ } => operand_reaches(argument),
-        Call::WriteOperand {
-            argument,
-            size: _,
-            value: _,
-        } => operand_reaches(argument),
-        Call::EffectiveAddress { argument: _ } => false,
+        Call::ReadOperand { argument, .. } => operand_reaches(argument),
+        Call::WriteOperand { argument, .. } => operand_reaches(argument),
+        Call::EffectiveAddress { .. } => false,
         Call::Push => true,
         Call::Pop => true,
-        Call::ReadMemory { address: _ } => true,
-        Call::WriteMemory { address: _ } => true,
-        Call::TestFlag { flag: _ } => false,
-        Call::SetFlag { flag: _, value: _ } => false,
-        Call::ComputeFlags { result: _, size: _ } => false,
-        Call::ComputeSizedFlags { result: _, size: _ } => false,
-        Call::Arithmetic {
-            operation: _,
-            size: _,
-            first: _,
-            second: _,
-        } => false,
+        Call::ReadMemory { .. } => true,
+        Call::WriteMemory { .. } => true,
+        Call::TestFlag { .. } => false,
+        Call::SetFlag { .. } => false,
+        Call::ComputeFlags { .. } => false,
+        Call::ComputeSizedFlags { .. } => false,
+        Call::Arithmetic { .. } => false,
     }
 }

@@ -1,66 +1,61 @@
 // Memory, the stack, the walk and the screen. Each example has a store of its own.
-use super::show::{end, label, show, show_answer};
-use instruction_set::{ArgumentSize, InstructionArgument, Register, SomeRegister, SomeScale};
+use super::show::{Said, Signed};
+use instruction_set::{ArgumentSize, InstructionArgument, Register};
 use machine_state::{Event, MachineState};
 use std::io;
 
-const TOP: u64 = 0xFFFF_FFFF_FFFF_FFFF;
-
-// The operand at an address below 2^31.
-fn at(displacement: i32) -> InstructionArgument {
+// The operand at an address below 2^31, or as far below 0.
+pub(crate) fn at(displacement: i32) -> InstructionArgument {
     InstructionArgument::EffectiveAddress {
-        base: SomeRegister::Absent,
-        index: SomeRegister::Absent,
-        scale: SomeScale::Absent,
+        base: None,
+        index: None,
+        scale: None,
         displacement,
     }
 }
 
 fn values(rt: &impl Print) -> io::Result<()> {
-    let mut dir = [0u64; 1];
-    let mut bytes = [0u8; 4096];
+    let mut dir = [0; 1];
+    let mut bytes = [0; 4096];
     let wrote = MachineState::new().mem_write(0, &[0x80, 0x80], &mut dir, &mut bytes, 0);
     let m = wrote.machine;
-    let used = wrote.used;
-    let byte = m.get_value(at(0), ArgumentSize::Bit8, &dir, &bytes, used);
-    show_answer(rt, "bytes 80 80 at 0: Bit8 reads ", byte)?;
-    let word = m.get_value(at(0), ArgumentSize::Bit16, &dir, &bytes, used);
-    show_answer(rt, ", Bit16 reads ", word)?;
-    end(rt)
+    let byte = m.get_value(at(0), ArgumentSize::Bit8, &dir, &bytes, wrote.used);
+    let word = m.get_value(at(0), ArgumentSize::Bit16, &dir, &bytes, wrote.used);
+    println!(rt;
+        "bytes 80 80 at 0: Bit8 reads {}, Bit16 reads {}",
+        Said(byte.answer),
+        Said(word.answer)
+    )
 }
 
 fn push(rt: &impl Print) -> io::Result<()> {
-    let mut dir = [0u64; 1];
-    let mut bytes = [0u8; 4096];
+    let mut dir = [0; 1];
+    let mut bytes = [0; 4096];
     let pushed = MachineState::new().stack_push(b"12345678", &mut dir, &mut bytes, 0);
     let m = pushed.machine;
-    show(
-        rt,
-        "rsp 0, push 8 bytes: rsp ",
-        m.get_register_value(Register::RSP),
-    )?;
-    let first = m.mem_read_byte(TOP - 7, &dir, &bytes, pushed.used);
-    show_answer(rt, ", byte at 2^64 - 8 is ", first)?;
-    end(rt)
+    let rsp = m.get_register_value(Register::RSP);
+    let first = m.mem_read_byte(u64::MAX - 7, &dir, &bytes, pushed.used);
+    println!(rt;
+        "rsp 0, push 8 bytes: rsp {}, byte at 2^64 - 8 is {}",
+        Signed(rsp),
+        Said(first.answer)
+    )
 }
 
 fn top(rt: &impl Print) -> io::Result<()> {
-    let mut dir = [0u64; 2];
-    let mut bytes = [0u8; 8192];
-    let wrote = MachineState::new().mem_write(TOP, &[1, 2], &mut dir, &mut bytes, 0);
-    let m = wrote.machine;
-    let zero = m.mem_read_byte(0, &dir, &bytes, wrote.used);
-    show_answer(
-        rt,
-        "two bytes written at 2^64 - 1: byte at address 0 is ",
-        zero,
-    )?;
-    end(rt)
+    let mut dir = [0; 2];
+    let mut bytes = [0; 8192];
+    let wrote = MachineState::new().mem_write(u64::MAX, &[1, 2], &mut dir, &mut bytes, 0);
+    let zero = wrote.machine.mem_read_byte(0, &dir, &bytes, wrote.used);
+    println!(rt;
+        "two bytes written at 2^64 - 1: byte at address 0 is {}",
+        Said(zero.answer)
+    )
 }
 
 fn walk(rt: &impl Print) -> io::Result<()> {
-    let mut dir = [0u64; 4];
-    let mut bytes = [0u8; 16384];
+    let mut dir = [0; 4];
+    let mut bytes = [0; 16384];
     let m = MachineState::new();
     let one = m.mem_write(0x1000, &[0x03, 0x20], &mut dir, &mut bytes, 0);
     let two = m.mem_write(0x2008, &[0x03, 0x30], &mut dir, &mut bytes, one.used);
@@ -68,74 +63,72 @@ fn walk(rt: &impl Print) -> io::Result<()> {
     let mark = m.mem_write(0x600005, &[77], &mut dir, &mut bytes, three.used);
     let paged = m.set_register_value(Register::CR3, 0x1000).machine;
     let seen = paged.mem_read_byte(0x40200005, &dir, &bytes, mark.used);
-    show_answer(
-        rt,
-        "cr3 0x1000: the byte at 0x40200005 is that at 0x600005, ",
-        seen,
-    )?;
-    end(rt)
+    println!(rt;
+        "cr3 0x1000: the byte at 0x40200005 is that at 0x600005, {}",
+        Said(seen.answer)
+    )
 }
 
 fn room(rt: &impl Print) -> io::Result<()> {
-    let mut dir = [0u64; 1];
-    let mut bytes = [0u8; 4096];
+    let mut dir = [0; 1];
+    let mut bytes = [0; 4096];
     let m = MachineState::new();
     let full = m.mem_write(4095, &[1, 2], &mut dir, &mut bytes, 0);
-    show_answer(rt, "one unused slot, two bytes at 4095: ", full)?;
-    let mut dir = [0u64; 2];
-    let mut bytes = [0u8; 8192];
+    let mut dir = [0; 2];
+    let mut bytes = [0; 8192];
     let page = m.mem_write(0, &[1], &mut dir, &mut bytes, 0);
     let fits = m.mem_write(4095, &[1, 2], &mut dir, &mut bytes, page.used);
-    show_answer(rt, "; page 0 present: ", fits)?;
-    end(rt)
+    println!(rt;
+        "one unused slot, two bytes at 4095: {}; page 0 present: {}",
+        Said(full.answer),
+        Said(fits.answer)
+    )
 }
 
 // Two bytes in two new pages, by a write, a push and an operand: a store of one slot, in use or not, has too few.
 fn lacking(rt: &impl Print, text: &str, used: usize) -> io::Result<()> {
-    let mut dir = [7u64; 1];
-    let mut bytes = [0u8; 4096];
+    let mut dir = [7; 1];
+    let mut bytes = [0; 4096];
     let m = MachineState::new();
     let wrote = m.mem_write(4095, &[1, 2], &mut dir, &mut bytes, used);
-    show_answer(rt, text, wrote)?;
     let stack = m.set_register_value(Register::RSP, 4097).machine;
     let pushed = stack.stack_push(&[1, 2], &mut dir, &mut bytes, used);
-    show_answer(rt, "; pushed: ", pushed)?;
-    let operand = m.set_value(
-        0x0201,
-        at(4095),
-        ArgumentSize::Bit16,
-        &mut dir,
-        &mut bytes,
-        used,
-    );
-    show_answer(rt, "; by an operand: ", operand)?;
-    end(rt)
+    let size = ArgumentSize::Bit16;
+    let operand = m.set_value(0x0201, at(4095), size, &mut dir, &mut bytes, used);
+    println!(rt;
+        "{text}: {}; pushed: {}; by an operand: {}",
+        Said(wrote.answer),
+        Said(pushed.answer),
+        Said(operand.answer)
+    )
 }
 
 // A full store has no slot for a new page; with one more it has.
 fn grown(rt: &impl Print) -> io::Result<()> {
-    let mut dir = [0u64; 1];
-    let mut bytes = [0u8; 4096];
+    let mut dir = [0; 1];
+    let mut bytes = [0; 4096];
     let m = MachineState::new();
     let full = m.mem_write(4096, &[1], &mut dir, &mut bytes, 1);
-    show_answer(rt, "a full store, one byte in a new page: ", full)?;
-    let mut dir = [0u64; 2];
-    let mut bytes = [0u8; 8192];
+    let mut dir = [0; 2];
+    let mut bytes = [0; 8192];
     let more = m.mem_write(4096, &[1], &mut dir, &mut bytes, 1);
-    show_answer(rt, "; with a slot more: ", more)?;
-    end(rt)
+    println!(rt;
+        "a full store, one byte in a new page: {}; with a slot more: {}",
+        Said(full.answer),
+        Said(more.answer)
+    )
 }
 
-fn screen(rt: &impl Print, text: &str, address: u64) -> io::Result<()> {
-    let mut dir = [0u64; 1];
-    let mut bytes = [0u8; 4096];
+fn screen(rt: &impl Print, address: u64) -> io::Result<()> {
+    let mut dir = [0; 1];
+    let mut bytes = [0; 4096];
     let wrote = MachineState::new().mem_write(address, b"A", &mut dir, &mut bytes, 0);
-    let event = wrote.event;
-    label(rt, text)?;
-    if let Event::Video { .. } = event {
-        return label(rt, " shows\n");
-    }
-    label(rt, " is dark\n")
+    let shown = if matches!(wrote.event, Event::Video { .. }) {
+        "shows"
+    } else {
+        "is dark"
+    };
+    println!(rt; "0x{address:X} {shown}")
 }
 
 // All the examples of this file, in order.
@@ -145,11 +138,11 @@ pub(crate) fn all(rt: &impl Print) -> io::Result<()> {
     top(rt)?;
     walk(rt)?;
     room(rt)?;
-    lacking(rt, "no unused slot, two bytes at 4095: ", 1)?;
-    lacking(rt, "one unused slot, two bytes at 4095: ", 0)?;
+    lacking(rt, "no unused slot, two bytes at 4095", 1)?;
+    lacking(rt, "one unused slot, two bytes at 4095", 0)?;
     grown(rt)?;
-    screen(rt, "0xB8000", 0xB8000)?;
-    screen(rt, "0xB8FA0", 0xB8FA0)?;
-    screen(rt, "0xB8001", 0xB8001)?;
-    screen(rt, "0xB8FA2", 0xB8FA2)
+    screen(rt, 0xB8000)?;
+    screen(rt, 0xB8FA0)?;
+    screen(rt, 0xB8001)?;
+    screen(rt, 0xB8FA2)
 }

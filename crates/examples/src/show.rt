@@ -1,63 +1,53 @@
-// What the examples print with.
-use machine_state::{Answer, Answered, Refusal};
-use std::io;
+// How the examples show words, flags and answers.
+use machine_state::{Answer, Given, Refusal};
+use std::fmt;
 
-// Text on standard output, as it stands.
-pub(crate) fn label(rt: &impl Print, text: &str) -> io::Result<()> {
-    rt.print(text)
+// A word, shown by its signed reading.
+#[derive(Clone, Copy)]
+pub(crate) struct Signed(pub(crate) u64);
+
+impl fmt::Display for Signed {
+    fn fmt<W: fmt::Write>(&self, f: &mut fmt::Formatter<W>) -> fmt::Result {
+        write!(f, "{}", utils::signed(self.0))
+    }
 }
 
-// A word by its signed reading, after its label.
-pub(crate) fn show(rt: &impl Print, text: &str, word: u64) -> io::Result<()> {
-    label(rt, text)?;
-    if word < 0x8000_0000_0000_0000 {
-        return rt.print(word);
+// A flag, or a truth that a call answers.
+#[derive(Clone, Copy)]
+pub(crate) struct Flag(pub(crate) bool);
+
+impl fmt::Display for Flag {
+    fn fmt<W: fmt::Write>(&self, f: &mut fmt::Formatter<W>) -> fmt::Result {
+        f.write_str(if self.0 { "set" } else { "clear" })
     }
-    label(rt, "-")?;
-    rt.print(std::num::wrapping_sub_u64(0, word))
 }
 
-// A flag, after its label.
-pub(crate) fn show_flag(rt: &impl Print, text: &str, set: bool) -> io::Result<()> {
-    label(rt, text)?;
-    if set {
-        return label(rt, "set");
-    }
-    label(rt, "clear")
-}
+// A refusal, shown by its number; 6 says how many slots lack (RULES 7.5).
+#[derive(Clone, Copy)]
+struct Refused(Refusal);
 
-// A refusal by its number; 6 says how many slots lack (RULES 7.5).
-fn show_refusal(rt: &impl Print, why: Refusal) -> io::Result<()> {
-    show(rt, "refusal ", why.number())?;
-    let lacking = why.lacking() as u64;
-    if lacking == 1 {
-        label(rt, ", 1 slot lacks")?;
-    }
-    if 1 < lacking {
-        show(rt, ", ", lacking)?;
-        label(rt, " slots lack")?;
-    }
-    Ok(())
-}
-
-// What a call answers, after its label.
-pub(crate) fn show_answer(rt: &impl Print, text: &str, answered: Answered) -> io::Result<()> {
-    let answer = answered.answer;
-    match answer {
-        Answer::Done => {
-            label(rt, text)?;
-            label(rt, "accepted")
-        }
-        Answer::Value(value) => show(rt, text, value),
-        Answer::Truth(yes) => show_flag(rt, text, yes),
-        Answer::Refused(why) => {
-            label(rt, text)?;
-            show_refusal(rt, why)
+impl fmt::Display for Refused {
+    fn fmt<W: fmt::Write>(&self, f: &mut fmt::Formatter<W>) -> fmt::Result {
+        write!(f, "refusal {}", self.0.number())?;
+        match self.0.lacking() {
+            0 => Ok(()),
+            1 => f.write_str(", 1 slot lacks"),
+            lacking => write!(f, ", {lacking} slots lack"),
         }
     }
 }
 
-// Ends the line.
-pub(crate) fn end(rt: &impl Print) -> io::Result<()> {
-    label(rt, "\n")
+// What a call answers.
+#[derive(Clone, Copy)]
+pub(crate) struct Said(pub(crate) Answer);
+
+impl fmt::Display for Said {
+    fn fmt<W: fmt::Write>(&self, f: &mut fmt::Formatter<W>) -> fmt::Result {
+        match self.0 {
+            Ok(Given::Nothing) => f.write_str("accepted"),
+            Ok(Given::Word(word)) => write!(f, "{}", Signed(word)),
+            Ok(Given::Truth(yes)) => write!(f, "{}", Flag(yes)),
+            Err(why) => write!(f, "{}", Refused(why)),
+        }
+    }
 }

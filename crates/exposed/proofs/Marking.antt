@@ -1,30 +1,34 @@
 -- What the code of the report does: marking spans in a list of answers, and going through the calls from the last to the first, gives the
 -- recursive definition `exposed` at each place. Lists of answers are known by their elements. Assumes nothing.
 use mathlib.Core.Bool.{Bool, true, false, cond, not, ◌&&◌, ◌||◌}
-use mathlib.Core.List.{List, [], ◌∷◌}
+use mathlib.Core.List.{List, [], ◌∷◌, ◌++◌, map, reverse}
+use Rattle.std.proofs.lemmas.List.{map-append, reverse-append, reverse-reverse}
+use Rattle.std.proofs.lemmas.Bool.{cases_Bool}
 use mathlib.Core.Logic.{◌⊎◌, inl, inr, ⊎_elim}
-use mathlib.Core.Path.{◌≡◌, refl, sym, ap, ap₂, ◌∙◌}
+use mathlib.Core.Path.{◌≡◌, refl, sym, ap, ap₂, ◌∙◌, subst}
 use Prim.Native.Nat.{ℕ, zero, suc, ◌+◌, ◌-◌, ◌≤◌, ◌<◌}
 use native.Mathlib.Decide.{dec_lt}
 use native.Mathlib.Nat.{le_of_suc-le-suc, not-suc-le-zero}
 use native.Mathlib.Omega.{arith}
 use lib.Dec.{eqb}
-use lib.ListN.{length, get_or, set, length-set, take, drop, replicate, length-take, drop_of_length-le}
-use lib.Seq.{ext_get_or, get_or-set_same, get_or-set_other, drop-cons, get_or-take}
+use lib.ListN.{length, get_or, set, length-set, replicate}
+use lib.Seq.{ext_get_or, get_or-set_same, get_or-set_other}
 use borrow.Author.Tests.{eqb-true, eqb-false, le-leb, lt-leb}
-use Rattle.utils.proofs.Bools.{tested}
 use Rattle.utils.specs.Outcome.{gives, refuses}
 use Rattle.effects.specs.Exposed.{exposed}
 use Rattle.effects.specs.Rows.{span, reads_of, rewrites_of, in_span, in_spans}
 use Rattle.effects.specs.declared.Spans.{Spans}
 use Rattle.effects.proofs.Within.{in_low, in_high, in_yes, in_no, in_out}
-use Rattle.exposed.specs.Reported.{truths_of, ReportAnswer, entry_reads, entry_rewrites, reported, Marked}
-use Rattle.exposed.specs.declared.CallEntry.{CallEntry}
+use Rattle.exposed.specs.Reported.{truths_of, ReportAnswer, call_reads, call_rewrites, reported, Marked}
+use Rattle.calls.specs.declared.Call.{Call}
 
 -- ---- marking
 pub mark_none : (on : List Bool) (a : ℕ) (v : Bool) → Marked on on (in_span (span a (a - a))) v
 mark_none on a v =
-    record { long = refl; at = λ k. sym (ap (λ (b : Bool). cond b v (get_or on k false)) (in_out (span a (a - a)) k (side k (dec_lt k a)))) }
+    record {
+      long = refl;
+      at = λ k. sym (ap (λ (b : Bool). cond b v (get_or on k false)) (in_out (span a (a - a)) k (side k (dec_lt k a))));
+    }
   where
     side : (k : ℕ) → Dec (k < a) → (k < a) ⊎ (a + (a - a) ≤ k)
     side k (yes l) = inl l
@@ -32,7 +36,7 @@ mark_none on a v =
 
 pub mark_more : (on out : List Bool) (a p : ℕ) (v : Bool) → a ≤ p → p < length on → Marked on out (in_span (span a (p - a))) v
     → Marked on (set out p v) (in_span (span a (p + 1 - a))) v
-mark_more on out a p v l fits m = record { long = length-set out p v ∙ m.long; at = λ k. go k (tested (eqb k p)) }
+mark_more on out a p v l fits m = record { long = length-set out p v ∙ m.long; at = λ k. go k (cases_Bool (eqb k p)) }
   where
     room : p < length out
     room = omega (arith, m.long)
@@ -56,12 +60,10 @@ mark_more on out a p v l fits m = record { long = length-set out p v ∙ m.long;
     go k (inr f) =
         let ne : k ≡ p → ⊥ = eqb-false k p f in
         get_or-set_other out p k v false ne ∙ m.at k
-        ∙ ap (λ (b : Bool). cond b v (get_or on k false)) (same k ne (tested (in_span (span a (p - a)) k)))
+        ∙ ap (λ (b : Bool). cond b v (get_or on k false)) (same k ne (cases_Bool (in_span (span a (p - a)) k)))
 
 marked_or : (a b v x : Bool) → cond b v (cond a v x) ≡ cond (a || b) v x
-marked_or true true v x = refl
-marked_or true false v x = refl
-marked_or false b v x = refl
+marked_or a b v x = grind arith
 
 mark_twice : {on mid out : List Bool} {w u : ℕ → Bool} {v : Bool} → Marked on mid w v → Marked mid out u v
     → Marked on out (λ k. w k || u k) v
@@ -93,64 +95,54 @@ is_listed : (l : List Bool) (n : ℕ) (f : ℕ → Bool) → length l ≡ n → 
 is_listed l n f e h =
     ext_get_or false l (truths_of n f) (e ∙ sym (length_listed n f)) (λ i q. h i (omega arith) ∙ sym (get_or_listed n f i (omega arith)))
 
--- ---- the calls from k on are gone through: what the loop keeps
-pub record Listing (calls : List CallEntry) (n : ℕ) (on : List Bool) (k : ℕ) : Type 0 where
-  pub within : k ≤ n
-  pub is : on ≡ truths_of 182 (exposed entry_reads entry_rewrites (drop k (take n calls)))
+-- ---- what the loop keeps: the answers are those of the calls that it has gone through, the last of all calls first
+abbrev pub Listing : List Call → List Bool → Type 0
+Listing cs on = on ≡ truths_of 182 (exposed call_reads call_rewrites cs)
 
-pub listing_none : (calls : List CallEntry) (n : ℕ) → Listing calls n (replicate 182 false) n
+pub listing_none : Listing [] (replicate 182 false)
 unfolding truths_of exposed
-listing_none calls n =
-    let l : length (take n calls) ≤ n = omega (arith, length-take n calls) in
-    let e : drop n (take n calls) ≡ [] = drop_of_length-le (take n calls) l in
-    record { within = omega arith; is = rw e refl }
+listing_none = refl
 
-pub listing_long : {calls : List CallEntry} {n k : ℕ} {on : List Bool} → Listing calls n on k → length on ≡ 182
-listing_long {calls} {n} {k} l = ap length l.is ∙ length_listed 182 (exposed entry_reads entry_rewrites (drop k (take n calls)))
+pub listing_long : (cs : List Call) {on : List Bool} → Listing cs on → length on ≡ 182
+listing_long cs l = ap length l ∙ length_listed 182 (exposed call_reads call_rewrites cs)
 
 -- what is read is exposed, and what was exposed and is not rewritten
 shows : (r w later : Bool) → cond r true (cond w false later) ≡ (r || not w && later)
-shows true w later = refl
-shows false true later = refl
-shows false false later = refl
+shows r w later = grind arith
 
-pub listing_more : (calls : List CallEntry) (n : ℕ) (on mid out : List Bool) (k : ℕ) (d e : CallEntry) (r w : Spans) → 0 < k
-    → n ≤ length calls
-    → e ≡ get_or calls (k - 1) d → r ≡ reads_of e.call → w ≡ rewrites_of e.call → Marked on mid (in_spans w) false
-    → Marked mid out (in_spans r) true
-    → Listing calls n on k → Listing calls n out (k - 1)
-unfolding exposed entry_reads entry_rewrites
-listing_more calls n on mid out k d e r w pos fits ee er ew a b l =
-    record { within = omega (arith, l.within); is = rw opened (is_listed out 182 (exposed entry_reads entry_rewrites (e ∷ rest)) long at) }
+pub listing_more : (c : Call) (cs : List Call) (on mid out : List Bool) (r w : Spans) → r ≡ reads_of c → w ≡ rewrites_of c
+    → Marked on mid (in_spans w) false → Marked mid out (in_spans r) true → Listing cs on → Listing (c ∷ cs) out
+unfolding exposed call_reads call_rewrites
+listing_more c cs on mid out r w er ew a b l = is_listed out 182 (exposed call_reads call_rewrites (c ∷ cs)) long at
   where
-    rest : List CallEntry
-    rest = drop k (take n calls)
-
-    opened : drop (k - 1) (take n calls) ≡ e ∷ rest
-    opened =
-        let more : k - 1 < length (take n calls) = omega (arith, length-take n calls, l.within) in
-        let s : suc (k - 1) ≡ k = omega arith in
-        drop-cons (take n calls) (k - 1) d more
-        ∙ ap₂ (λ (x : CallEntry) (j : ℕ). x ∷ drop j (take n calls)) (get_or-take n calls (k - 1) d (omega (arith, l.within)) ∙ sym ee) s
-
     long : length out ≡ 182
-    long = b.long ∙ a.long ∙ ap length l.is ∙ length_listed 182 (exposed entry_reads entry_rewrites rest)
+    long = b.long ∙ a.long ∙ listing_long cs l
 
     at : (i : ℕ) → i < 182
-        → get_or out i false
-        ≡ (in_spans (reads_of e.call) i || not (in_spans (rewrites_of e.call) i) && exposed entry_reads entry_rewrites rest i)
+        → get_or out i false ≡ (in_spans (reads_of c) i || not (in_spans (rewrites_of c) i) && exposed call_reads call_rewrites cs i)
     at i h =
         b.at i ∙ ap (λ (x : Bool). cond (in_spans r i) true x) (a.at i) ∙ shows (in_spans r i) (in_spans w i) (get_or on i false)
         ∙ ap (λ (x : Bool). in_spans r i || not (in_spans w i) && x)
-        (ap (λ (x : List Bool). get_or x i false) l.is ∙ get_or_listed 182 (exposed entry_reads entry_rewrites rest) i h)
-        ∙ ap₂ (λ (x y : Spans). in_spans x i || not (in_spans y i) && exposed entry_reads entry_rewrites rest i) er ew
+        (ap (λ (x : List Bool). get_or x i false) l ∙ get_or_listed 182 (exposed call_reads call_rewrites cs) i h)
+        ∙ ap₂ (λ (x y : Spans). in_spans x i || not (in_spans y i) && exposed call_reads call_rewrites cs i) er ew
 
-pub listing_done : (calls : List CallEntry) (n : ℕ) (on : List Bool) → n ≤ 64 → Listing calls n on 0
-    → ◌≡◌ {A = ReportAnswer} record { outcome = gives []; places = on } (reported calls n)
-unfolding reported
-listing_done calls n on h l = simp (le-leb n 64 h) (rw l.is refl)
+-- one call more among those that were gone through, and all of them
+pub listing_step : {X : Type 0} (now : X → Call) (ys : List X) (x : X) (on : List Bool) → Listing (now x ∷ reverse (map now ys)) on
+    → Listing (reverse (map now (ys ++ x ∷ []))) on
+listing_step now ys x on l =
+    let e : reverse (map now (ys ++ x ∷ [])) ≡ now x ∷ reverse (map now ys) =
+    ap reverse (map-append now ys (x ∷ [])) ∙ reverse-append (map now ys) (now x ∷ []) in
+    subst (λ (cs : List Call). Listing cs on) (sym e) l
 
-pub listing_refused : (calls : List CallEntry) (n : ℕ) → 64 < n
-    → ◌≡◌ {A = ReportAnswer} record { outcome = refuses 12; places = replicate 182 false } (reported calls n)
+pub listing_all : (ys cs : List Call) (on : List Bool) → ys ≡ reverse cs → Listing (reverse ys) on → Listing cs on
+listing_all ys cs on e l = subst (λ (ds : List Call). Listing ds on) (ap reverse e ∙ reverse-reverse cs) l
+
+pub listing_done : (cs : List Call) (on : List Bool) → length cs ≤ 64 → Listing cs on
+    → ◌≡◌ {A = ReportAnswer} record { outcome = gives []; places = on } (reported cs)
 unfolding reported
-listing_refused calls n h = simp (lt-leb n 64 h)
+listing_done cs on h l = simp (le-leb (length cs) 64 h) (rw l refl)
+
+pub listing_refused : (cs : List Call) → 64 < length cs
+    → ◌≡◌ {A = ReportAnswer} record { outcome = refuses 12; places = replicate 182 false } (reported cs)
+unfolding reported
+listing_refused cs h = simp (lt-leb (length cs) 64 h)

@@ -1,13 +1,12 @@
 -- The report (RULES 8.5): of each of the 182 places, in their order, whether it is exposed.
-use Rattle.std.specs.Prelude.{Bool, false, cond, List, [], ◌∷◌, ◌≡◌, ℕ, zero, suc, leb, length, get_or, take, replicate}
+use Rattle.std.specs.Prelude.{Bool, false, cond, List, [], ◌∷◌, ◌≡◌, ℕ, zero, suc, leb, length, get_or, replicate, Result, Ok, Err}
 use Rattle.utils.specs.Outcome.{Outcome, gives, refuses}
+use Rattle.calls.specs.declared.Call.{Call}
 use Rattle.effects.specs.Exposed.{exposed}
 use Rattle.effects.specs.Places.{Act}
 use Rattle.effects.specs.Rows.{reads_of, rewrites_of, in_spans}
-use Rattle.exposed.specs.declared.CallEntry.{CallEntry}
 use Rattle.exposed.specs.declared.Report.{Report}
-use Rattle.exposed.specs.declared.Verdict.{Verdict}
-use Rattle.exposed.specs.declared.Verdict.TheVariants.{Listed, TooManyCalls}
+use Rattle.exposed.specs.declared.TooManyCalls.{TooManyCalls}
 
 -- f 0, f 1, ..: n of them
 unfoldable pub truths_of : ℕ → (ℕ → Bool) → List Bool
@@ -15,9 +14,9 @@ truths_of zero f = []
 truths_of (suc n) f = f 0 ∷ truths_of n (λ k. f (suc k))
 
 -- the number and values of each verdict (RULES 9.3): 12 where there are more than 64 calls
-abbrev pub verdict_outcome : Verdict → Outcome ℕ
-verdict_outcome Listed = gives []
-verdict_outcome TooManyCalls = refuses 12
+abbrev pub verdict_outcome : Result (Unit {0}) TooManyCalls → Outcome ℕ
+verdict_outcome (Ok x) = gives []
+verdict_outcome (Err r) = refuses 12
 
 -- all that a report says: its number, and the 182 answers (RULES 8.5)
 pub record ReportAnswer : Type 0 where
@@ -27,21 +26,21 @@ pub record ReportAnswer : Type 0 where
 abbrev pub report_answer : Report → ReportAnswer
 report_answer r = record { outcome = verdict_outcome r.verdict; places = r.places }
 
--- the rows, of a call in a reported list
-unfoldable pub entry_reads : CallEntry → ℕ → Bool
-entry_reads e p = in_spans (reads_of e.call) p
+-- the rows, place by place
+unfoldable pub call_reads : Call → ℕ → Bool
+call_reads c p = in_spans (reads_of c) p
 
-unfoldable pub entry_rewrites : CallEntry → ℕ → Bool
-entry_rewrites e p = in_spans (rewrites_of e.call) p
+unfoldable pub call_rewrites : Call → ℕ → Bool
+call_rewrites c p = in_spans (rewrites_of c) p
 
--- a call of a list, without the bytes lent to it, as an entry of a reported list
-abbrev pub entry_of : Act → CallEntry
-entry_of a = record { call = a.call }
+-- a call of a list, without the bytes lent to it
+abbrev pub call_of_act : Act → Call
+call_of_act a = a.call
 
--- a list has 64 spots and states a count: the exposed places of the first n calls; all no where the list is refused (RULES 8.5)
-unfoldable pub reported : List CallEntry → ℕ → ReportAnswer
-reported calls n =
-    cond (leb n 64) (record { outcome = gives []; places = truths_of 182 (exposed entry_reads entry_rewrites (take n calls)) })
+-- of at most 64 calls their exposed places; all no where the list is refused (RULES 8.5)
+unfoldable pub reported : List Call → ReportAnswer
+reported cs =
+    cond (leb (length cs) 64) (record { outcome = gives []; places = truths_of 182 (exposed call_reads call_rewrites cs) })
     (record { outcome = refuses 12; places = replicate 182 false })
 
 -- ---- what only private functions' contracts cite

@@ -12,54 +12,44 @@ ghost use Rattle.exposed.specs.Reported.{verdict_outcome, report_answer, reporte
 use calls::Call;
 use effects::{Span, Spans};
 
-// A call of a reported list.
-#[derive(Clone, Copy)]
-pub struct CallEntry {
-    pub call: Call,
-}
+// The most calls of one report (RULES 8.5).
+const MOST: usize = 64;
 
-// Whether a report is given, or refused with 12 (RULES 8.5).
-#[derive(Clone, Copy)]
-pub enum Verdict {
-    Listed,
-    TooManyCalls,
-}
+// Refusal 12: more calls than that.
+#[derive(Clone, Copy, Debug, PartialEq, Eq)]
+pub struct TooManyCalls;
 
-impl Verdict {
-    // The refusal's number, or 0 where the places are listed.
+impl TooManyCalls {
+    // The refusal's number.
     pub fn number(self) -> u64
-        ensures { result ≡ (verdict_outcome self).number }
+        ensures { result ≡ (verdict_outcome (Err self)).number }
     {
-        match self {
-            Verdict::Listed => 0,
-            Verdict::TooManyCalls => 12,
-        }
+        12
     }
 }
 
-// Of each of the 182 places, in their order, whether it is exposed; all no where the list is refused (RULES 8.5).
+// Of each of the 182 places, in their order, whether it is exposed; all no where the list is refused. They stand beside the verdict, and
+// not in its `Ok`, for of a refused list too `report_refused` says every place (RULES 8.5).
 #[derive(Clone, Copy)]
 pub struct Report {
-    pub verdict: Verdict,
+    pub verdict: Result<(), TooManyCalls>,
     pub places: [bool; 182],
 }
 
 // Says yes or no at so many places from start on, and leaves the others.
 fn mark_from(on: &mut [bool; 182], start: usize, count: usize, value: bool)
-    requires { (length on.old ≡ 182) × (start + count ≤ 182) }
+    requires { start + count ≤ 182 }
     ensures { Marked on.old on.new (in_span (span start count)) value }
 {
-    let end = start + count;
-    let mut p = start;
-    while p < end {
+    for p in start..start + count {
         on[p] = value;
-        p += 1;
     }
 }
 
-// Most spans are one flag or one whole register: where the count is known, the loop is compiled to one store.
+// Most spans are one flag or one whole register: three arms alike, for where the count is known the loop is compiled to one store
+// (docs/SPEED.md, "The exposed report").
 fn mark(on: &mut [bool; 182], span: Span, value: bool)
-    requires { (length on.old ≡ 182) × (span.start + span.count ≤ 182) }
+    requires { span.start + span.count ≤ 182 }
     ensures { Marked on.old on.new (in_span span) value }
 {
     let count = span.count;
@@ -71,43 +61,35 @@ fn mark(on: &mut [bool; 182], span: Span, value: bool)
 }
 
 fn mark_all(on: &mut [bool; 182], spans: Spans, value: bool)
-    requires { (length on.old ≡ 182) × Inside spans }
+    requires { Inside spans }
     ensures { Marked on.old on.new (in_spans spans) value }
 {
-    let one = spans.one;
-    let two = spans.two;
-    let three = spans.three;
-    let four = spans.four;
-    mark(on, one, value);
-    mark(on, two, value);
-    mark(on, three, value);
-    mark(on, four, value);
+    mark(on, spans.one, value);
+    mark(on, spans.two, value);
+    mark(on, spans.three, value);
+    mark(on, spans.four, value);
 }
 
-// The exposed places of the first count calls, whatever stands behind them (RULES 8.5). Refuses 12. No event.
+// The exposed places of a list of calls (RULES 8.5). Refuses 12. No event.
 // From the last call to the first: what a call rewrites is no longer exposed, and then what it reads is.
-pub fn exposed_places(calls: [CallEntry; 64], count: usize) -> Report
-    ensures { report_answer result ≡ reported calls count }
+pub fn exposed_places(calls: &[Call]) -> Report
+    ensures { report_answer result ≡ reported calls.now }
 {
-    if 64 < count {
+    if MOST < calls.len() {
         return Report {
-            verdict: Verdict::TooManyCalls,
+            verdict: Err(TooManyCalls),
             places: [false; 182],
         };
     }
     let mut on = [false; 182];
-    let mut k = count;
-    while 0 < k {
-        k -= 1;
-        let entry = calls[k];
-        let call = entry.call;
-        let rewrites = effects::rewrites_of(call);
-        let reads = effects::reads_of(call);
+    for call in calls.iter().rev() {
+        let rewrites = effects::rewrites_of(*call);
+        let reads = effects::reads_of(*call);
         mark_all(&mut on, rewrites, false);
         mark_all(&mut on, reads, true);
     }
     Report {
-        verdict: Verdict::Listed,
+        verdict: Ok(()),
         places: on,
     }
 }

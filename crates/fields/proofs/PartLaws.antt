@@ -36,7 +36,8 @@ module _ (p : Part) (x v : ℕ) where
   -- every other lane keeps its byte
   pub write_part_out : (j : ℕ) → (first_lane p ≤ j → first_lane p + lanes_rewritten p ≤ j) → lane j (write_of p x v) ≡ lane j x
   unfolding write_of
-  write_part_out j h = put_outside x (8 * first_lane p) (8 * lanes_rewritten p) (v % 2 ^ (8 * lanes_read p)) (8 * j) 8 (side (dec_lt j (first_lane p)))
+  write_part_out j h =
+      put_outside x (8 * first_lane p) (8 * lanes_rewritten p) (v % 2 ^ (8 * lanes_read p)) (8 * j) 8 (side (dec_lt j (first_lane p)))
     where
       side : Dec (j < first_lane p) → (8 * j + 8 ≤ 8 * first_lane p) ⊎ (8 * first_lane p + 8 * lanes_rewritten p ≤ 8 * j)
       side (yes l) = inl (omega arith)
@@ -44,13 +45,15 @@ module _ (p : Part) (x v : ℕ) where
 
   pub write_part_word : x < 2 ^ 64 → write_of p x v < 2 ^ 64
   unfolding write_of
-  write_part_word h = put_lt x (8 * first_lane p) (8 * lanes_rewritten p) (v % 2 ^ (8 * lanes_read p)) 64 (omega (arith, rewrites_within p)) h
+  write_part_word h =
+      put_lt x (8 * first_lane p) (8 * lanes_rewritten p) (v % 2 ^ (8 * lanes_read p)) 64 (omega (arith, rewrites_within p)) h
 
   -- what is written reads back, sign-extended from the part's size
   pub write_part_read : read_of p (write_of p x v) ≡ extend (8 * lanes_read p) v
   unfolding read_of write_of
   write_part_read =
-      let r : lanes_read p ≤ lanes_rewritten p = leb→le (lanes_read p) (lanes_rewritten p) (all enum (λ q. leb (lanes_read q) (lanes_rewritten q)) tt p) in
+      let r : lanes_read p ≤ lanes_rewritten p =
+      leb→le (lanes_read p) (lanes_rewritten p) (all enum (λ q. leb (lanes_read q) (lanes_rewritten q)) tt p) in
       let n = 8 * lanes_read p in
       let e : 8 * first_lane p ≡ 8 * first_lane p + 0 = omega arith in
       ap (extend (8 * lanes_read p))

@@ -11,7 +11,7 @@ use lib.Count.{ones}
 use lib.Dec.{eqb}
 use lib.Pow.{pow_pos}
 use Rattle.utils.specs.Word.{cut, extend}
-use Rattle.utils.proofs.Bools.{tested}
+use Rattle.std.proofs.lemmas.Bool.{cases_Bool}
 use Rattle.utils.proofs.Extend.{extend_zero}
 use Rattle.utils.proofs.Field.{cut_bottom, cut_mod}
 use Rattle.instruction_set.specs.Sizes.{bytes_of}
@@ -61,7 +61,7 @@ module _ (s : ArgumentSize) (v : ℕ) where
   low_zero e = ap (low_bits s) e ∙ cut_bottom 0 w ∙ mod-eq_of_lt (pow_pos w)
 
   pub zero_told : (low_bits s v ≡ 0 → v ≡ 0) → eqb (low_bits s v) 0 ≡ eqb v 0
-  zero_told h = go (tested (eqb (low_bits s v) 0))
+  zero_told h = go (cases_Bool (eqb (low_bits s v) 0))
     where
       go : (eqb (low_bits s v) 0 ≡ true) ⊎ (eqb (low_bits s v) 0 ≡ false) → eqb (low_bits s v) 0 ≡ eqb v 0
       go (inl t) = let e : v ≡ 0 = h (eqb-true (low_bits s v) 0 t) in rw (t, e)

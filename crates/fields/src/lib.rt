@@ -103,7 +103,7 @@ pub fn even_parity(res: u64) -> bool
     ensures { result ≡ even_ones res }
 {
     let low_byte = res % 0x100;
-    u64::count_ones(low_byte) % 2 == 0
+    low_byte.count_ones() % 2 == 0
 }
 
 // rflags after a result (RULES 2.10). Zero looks at all 64 bits whatever the size, as in the Rust.

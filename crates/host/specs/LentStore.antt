@@ -1,12 +1,10 @@
 -- A write of memory on a machine that is lent as its words and a store that is lent beside it, for a host that is not written in Rattle
 -- (RULES 9.8). What the write does is mmu's (`write_outcome`, `write_store`, `shown_of`); here is how its answer reads in words.
-use Rattle.std.specs.Prelude.{List, ◌≡◌, ℕ, length, get_or}
+use Rattle.std.specs.Prelude.{List, ◌≡◌, ℕ, length, get_or, Option, Some, None}
 use Rattle.utils.specs.Outcome.{Outcome}
 use Rattle.store.specs.Store.{Store}
 use Rattle.walk.specs.Walk.{physical}
 use Rattle.mmu.specs.Calls.{write_outcome, write_store, shown_of}
-use Rattle.mmu.specs.declared.Shown.{Shown}
-use Rattle.mmu.specs.declared.Shown.TheVariants as shown
 use Rattle.host.specs.declared.WriteAnswer.{WriteAnswer}
 
 -- the number, 0 where it is accepted; how many slots lack where it is 6 (RULES 7.5), else 0
@@ -14,15 +12,15 @@ abbrev pub says_first : Outcome ℕ → ℕ
 says_first o = get_or o.values 0 0
 
 -- whether the screen shows a byte, and which
-abbrev pub shows_byte : Shown → ℕ
-shows_byte shown.Nothing = 0
-shows_byte (shown.Byte b) = 1
+abbrev pub shows_byte : Option ℕ → ℕ
+shows_byte None = 0
+shows_byte (Some b) = 1
 
-abbrev pub byte_shown : Shown → ℕ
-byte_shown shown.Nothing = 0
-byte_shown (shown.Byte b) = b
+abbrev pub byte_shown : Option ℕ → ℕ
+byte_shown None = 0
+byte_shown (Some b) = b
 
-abbrev pub write_answer : Outcome ℕ → ℕ → Shown → WriteAnswer
+abbrev pub write_answer : Outcome ℕ → ℕ → Option ℕ → WriteAnswer
 write_answer o u e = record { refusal = o.number; lacking = says_first o; used = u; shows = shows_byte e; byte = byte_shown e }
 
 -- CR3 is word 19 of the machine; no word changes

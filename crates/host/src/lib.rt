@@ -18,12 +18,12 @@ ghost use Rattle.host.specs.LentWords.{lent_after, unnamed_answer, named_answer,
 ghost use Rattle.host.specs.LentStore.{says_first, shows_byte, byte_shown, WroteLent};
 
 use arithmetic::Operation;
-use instruction_set::{Flags, SomeFlag, SomeSize};
-use machine_state::MachineState;
-use wire_numbers::SomeOperation;
+use instruction_set::Flags;
+use machine_state::{CR3, MachineState};
 
-// CR3 is word 19 of the machine's 25 (RULES 2.2).
-const CR3: usize = 19;
+// The machine's 25 words are its fields in their order (RULES 9.8): CR3 is among the first 22, and rflags follow these. They are an array
+// and no struct, for C lends them so (host/ruonasvel.h).
+const RFLAGS: usize = 22;
 
 // Sets or clears a flag of the machine that is lent (RULES 2.9, 9.8). Never refuses; the by-value call's event is always Quiet.
 pub fn set_flag(m: &mut MachineState, flag: Flags, value: bool)
@@ -33,40 +33,19 @@ pub fn set_flag(m: &mut MachineState, flag: Flags, value: bool)
 }
 
 // Sets a flag by its number (RULES 2.8): 0 clears, any other value sets. Answers false, and changes nothing, where none has it.
+#[tactic(auto, unfolding(crate::specs::Numbered::set_numbered))]
 pub fn ruonasvel_set_flag(m: &mut MachineState, flag: u64, value: u64) -> bool
     ensures { (m.new ≡ set_numbered m.old (flag_at flag) (is_set value)) × (result ≡ names_flag (flag_at flag)) }
 {
-    let tried = set_numbered(*m, flag, value);
-    *m = tried.machine;
-    tried.known
-}
-
-// What a call by number leaves, and whether its number names a flag.
-#[derive(Clone, Copy)]
-struct Tried {
-    machine: MachineState,
-    known: bool,
-}
-
-fn set_numbered(machine: MachineState, flag: u64, value: u64) -> Tried
-    ensures { (result.machine ≡ set_numbered machine (flag_at flag) (is_set value)) × (result.known ≡ names_flag (flag_at flag)) }
-{
-    let named = instruction_set::flag_at(flag);
-    let SomeFlag::Present(known) = named else {
-        return Tried {
-            machine,
-            known: false,
-        };
+    let Some(known) = instruction_set::flag_at(flag) else {
+        return false;
     };
-    let changed = machine.set_flag(known, value != 0);
-    let machine = changed.machine;
-    Tried {
-        machine,
-        known: true,
-    }
+    set_flag(m, known, value != 0);
+    true
 }
 
-// What an operation by number answers: `known` is 0 where a number names nothing, `answers` where there is no value.
+// What an operation by number answers: `known` is 0 where a number names nothing, `answers` where there is no value. C reads it
+// (host/ruonasvel.h), which has no Option; so too `WriteAnswer`.
 #[repr(C)]
 #[derive(Clone, Copy)]
 pub struct ArithmeticAnswer {
@@ -76,6 +55,7 @@ pub struct ArithmeticAnswer {
 }
 
 // Adds, subtracts or compares on a machine lent as its 25 words (RULES 2.12 to 2.14). Where a number names nothing, no word changes.
+#[tactic(auto, unfolding(crate::specs::LentWords::operated_on))]
 pub fn ruonasvel_arithmetic(
     machine: &mut [u64; 25],
     operation: u64,
@@ -85,16 +65,14 @@ pub fn ruonasvel_arithmetic(
 ) -> ArithmeticAnswer
     ensures { lent_after machine.new result ≡ operated_on (operation_at operation) (size_at size) machine.old first second }
 {
-    let asked = wire_numbers::operation_at(operation);
-    let SomeOperation::Present(chosen) = asked else {
+    let Some(chosen) = wire_numbers::operation_at(operation) else {
         return unnamed();
     };
-    let sized = wire_numbers::size_at(size);
-    let SomeSize::Present(width) = sized else {
+    let Some(width) = wire_numbers::size_at(size) else {
         return unnamed();
     };
-    let computed = arithmetic::compute(machine[22], chosen, width, first, second);
-    machine[22] = computed.rflags;
+    let computed = arithmetic::compute(machine[RFLAGS], chosen, width, first, second);
+    machine[RFLAGS] = computed.rflags;
     answer_to(chosen, computed.value)
 }
 
@@ -129,14 +107,14 @@ fn answer_to(operation: Operation, value: u64) -> ArithmeticAnswer
 }
 
 // The flags of a result at its size (RULES 2.11), in the 25 words. Answers false, and changes none, where no size has the number.
+#[tactic(auto, unfolding(crate::specs::LentWords::sized_flags_on))]
 pub fn ruonasvel_compute_sized_flags(machine: &mut [u64; 25], res: u64, size: u64) -> bool
     ensures { (machine.new ≡ sized_flags_on (size_at size) machine.old res) × (result ≡ names_size (size_at size)) }
 {
-    let sized = wire_numbers::size_at(size);
-    let SomeSize::Present(width) = sized else {
+    let Some(width) = wire_numbers::size_at(size) else {
         return false;
     };
-    machine[22] = fields::sized_flags(machine[22], res, width);
+    machine[RFLAGS] = fields::sized_flags(machine[RFLAGS], res, width);
     true
 }
 
@@ -165,49 +143,41 @@ pub fn ruonasvel_mem_write(
         (store_of dir.new bytes.new result.used) address «data».now result }
 {
     let written = mmu::mem_write(machine[CR3], address, data, dir, bytes, used);
-    let answer = written.answer;
-    let shown = written.shown;
     WriteAnswer {
-        refusal: refusal_of(answer),
-        lacking: lacking_of(answer),
+        refusal: refusal_of(written.answer),
+        lacking: lacking_of(written.answer),
         used: written.used,
-        shows: shows_byte(shown),
-        byte: byte_shown(shown),
+        shows: shows_byte(written.shown),
+        byte: byte_shown(written.shown),
     }
 }
 
-fn refusal_of(answer: mmu::Answer) -> u64
+fn refusal_of(answer: Result<(), mmu::Refusal>) -> u64
     ensures { result ≡ (memory_outcome answer).number }
 {
     match answer {
-        mmu::Answer::Done => 0,
-        mmu::Answer::Refused(why) => why.number(),
+        Ok(()) => 0,
+        Err(why) => why.number(),
     }
 }
 
-fn lacking_of(answer: mmu::Answer) -> u64
+fn lacking_of(answer: Result<(), mmu::Refusal>) -> u64
     ensures { result ≡ says_first (memory_outcome answer) }
 {
     match answer {
-        mmu::Answer::Done => 0,
-        mmu::Answer::Refused(why) => why.lacking() as u64,
+        Ok(()) => 0,
+        Err(why) => why.lacking() as u64,
     }
 }
 
-fn shows_byte(shown: mmu::Shown) -> u64
+fn shows_byte(shown: Option<u8>) -> u64
     ensures { result ≡ shows_byte shown }
 {
-    match shown {
-        mmu::Shown::Nothing => 0,
-        mmu::Shown::Byte(_) => 1,
-    }
+    u64::from(shown.is_some())
 }
 
-fn byte_shown(shown: mmu::Shown) -> u64
+fn byte_shown(shown: Option<u8>) -> u64
     ensures { result ≡ byte_shown shown }
 {
-    match shown {
-        mmu::Shown::Nothing => 0,
-        mmu::Shown::Byte(byte) => byte as u64,
-    }
+    shown.map_or(0, u64::from)
 }

@@ -93,7 +93,8 @@ pub arm_picks : (N R : Record) → T (bare N.parts) → T (bare R.parts) → (f 
 arm_picks N R b b' f v d h =
     values_one R v (f d)
     (choice_one R.parts b' (R.as_values v) (R.as_values (f d))
-    (eqb→eq (tag_of (declared R) v) (tag_of (declared R) (f d)) (arm N b (λ e. eqb (tag_of (declared R) v) (tag_of (declared R) (f e))) d h)))
+    (eqb→eq (tag_of (declared R) v) (tag_of (declared R) (f d))
+    (arm N b (λ e. eqb (tag_of (declared R) v) (tag_of (declared R) (f e))) d h)))
 
 -- a test that the checker computes at every variant
 abbrev pub every : (Fss : List (List Field)) → (Choice Fss → Bool) → Bool

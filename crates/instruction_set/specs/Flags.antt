@@ -1,9 +1,7 @@
 -- The six flags (RULES 2.8): which bit of rflags each is, and its number, by which places, records and hosts name it.
-use Rattle.std.specs.Prelude.{List, [], ◌∷◌, map, ℕ, get_or}
+use Rattle.std.specs.Prelude.{List, [], ◌∷◌, ℕ, Option, slice_get}
 use Rattle.instruction_set.specs.declared.Flags.{Flags}
 use Rattle.instruction_set.specs.declared.Flags.TheVariants.{Carry, Parity, Zero, Sign, Direction, Overflow}
-use Rattle.instruction_set.specs.declared.SomeFlag.{SomeFlag}
-use Rattle.instruction_set.specs.declared.SomeFlag.TheVariants as flag
 
 -- the bit of rflags that a flag is
 abbrev pub bit_of : Flags → ℕ
@@ -27,5 +25,5 @@ flag_number Direction = 4
 flag_number Overflow = 5
 
 -- the flag of a number, and none past 5 (`flag_back`: proofs/Numbered.antt)
-unfoldable pub flag_at : ℕ → SomeFlag
-flag_at n = get_or (map flag.Present flags) n flag.Absent
+unfoldable pub flag_at : ℕ → Option Flags
+flag_at n = slice_get flags n

@@ -1,11 +1,7 @@
 -- What may be amiss with an operand, by its kind and its parts alone (RULES 7.1, the first three).
-use Rattle.std.specs.Prelude.{Bool, true, false}
+use Rattle.std.specs.Prelude.{Bool, true, false, Option, Some, None}
 use Rattle.instruction_set.specs.declared.InstructionArgument.{InstructionArgument}
 use Rattle.instruction_set.specs.declared.InstructionArgument.TheVariants as arg
-use Rattle.instruction_set.specs.declared.SomeArgument.{SomeArgument}
-use Rattle.instruction_set.specs.declared.SomeArgument.TheVariants as some
-use Rattle.instruction_set.specs.declared.SomeRegister.TheVariants as reg
-use Rattle.instruction_set.specs.declared.SomeScale.TheVariants as scale
 
 -- 1, where an address is asked of it: a register or an immediate has none (RULES 5.4)
 abbrev pub no_address : InstructionArgument → Bool
@@ -23,10 +19,10 @@ is_immediate (arg.EffectiveAddress b i s d) = false
 abbrev pub lacks_scale : InstructionArgument → Bool
 lacks_scale (arg.Register r) = false
 lacks_scale (arg.Immediate v) = false
-lacks_scale (arg.EffectiveAddress b reg.Absent s d) = false
-lacks_scale (arg.EffectiveAddress b (reg.Present i) scale.Absent d) = true
-lacks_scale (arg.EffectiveAddress b (reg.Present i) (scale.Present s) d) = false
+lacks_scale (arg.EffectiveAddress b None s d) = false
+lacks_scale (arg.EffectiveAddress b (Some i) None d) = true
+lacks_scale (arg.EffectiveAddress b (Some i) (Some s) d) = false
 
-abbrev pub some_lacks_scale : SomeArgument → Bool
-some_lacks_scale some.Absent = false
-some_lacks_scale (some.Present x) = lacks_scale x
+abbrev pub some_lacks_scale : Option InstructionArgument → Bool
+some_lacks_scale None = false
+some_lacks_scale (Some x) = lacks_scale x

@@ -1,7 +1,6 @@
 // Registers, flags, sizes and operands: what an instruction names. The arguments record with its builder, access and size selection
 // stands here too. Below is utils; above, machine_state gives registers and operands their values, and text prints them.
-// It carries RULES 2.2 to 2.4 (the table of registers), 2.6, 2.8, 1.6 and, of section 5, 5.1 and 5.5 to 5.8 with refusals 8 to 11. What
-// may be absent is an enum of its own (RULES 9.7).
+// It carries RULES 2.2 to 2.4 (the table of registers), 2.6, 2.8, 1.6 and, of section 5, 5.1 and 5.5 to 5.8 with refusals 8 to 11.
 #![tactic(auto)]
 
 ghost use Rattle.std.specs.Prelude.{◌≡◌, ◌*◌};
@@ -103,7 +102,7 @@ pub enum Register {
 }
 
 // Which part of its parent, the 64-bit register that holds it, a register is (RULES 2.4); a segment is no part of any.
-#[derive(Clone, Copy)]
+#[derive(Clone, Copy, Debug, PartialEq, Eq)]
 pub enum Part {
     Whole,
     Low32,
@@ -114,7 +113,7 @@ pub enum Part {
 }
 
 // The six flags, in the order of their numbers, 0 to 5 (RULES 2.8).
-#[derive(Clone, Copy)]
+#[derive(Clone, Copy, Debug, PartialEq, Eq)]
 pub enum Flags {
     Carry,
     Parity,
@@ -125,26 +124,12 @@ pub enum Flags {
 }
 
 // The four sizes (RULES 1.6), in the order of their numbers in docs/FORMAT.md, 0 to 3.
-#[derive(Clone, Copy)]
+#[derive(Clone, Copy, Debug, PartialEq, Eq)]
 pub enum ArgumentSize {
     Bit64,
     Bit32,
     Bit16,
     Bit8,
-}
-
-// A base or an index that an address has or does not have.
-#[derive(Clone, Copy)]
-pub enum SomeRegister {
-    Absent,
-    Present(Register),
-}
-
-// A scale, any byte, that an address has or does not have (RULES 3.3).
-#[derive(Clone, Copy)]
-pub enum SomeScale {
-    Absent,
-    Present(u8),
 }
 
 // An operand: a value, a register, or the parts of an address (RULES 5.1).
@@ -157,59 +142,31 @@ pub enum InstructionArgument {
         register: Register,
     },
     EffectiveAddress {
-        base: SomeRegister,
-        index: SomeRegister,
-        scale: SomeScale,
+        base: Option<Register>,
+        index: Option<Register>,
+        scale: Option<u8>,
         displacement: i32,
     },
 }
 
-// An operand that an arguments record has or does not have.
-#[derive(Clone, Copy)]
-pub enum SomeArgument {
-    Absent,
-    Present(InstructionArgument),
-}
-
-// An opcode that an arguments record has or does not have.
-#[derive(Clone, Copy)]
-pub enum SomeOpcode {
-    Absent,
-    Present(u8),
-}
-
-// An explicit size that an arguments record has or does not have.
-#[derive(Clone, Copy)]
-pub enum SomeSize {
-    Absent,
-    Present(ArgumentSize),
-}
-
-// A flag, or none.
-#[derive(Clone, Copy)]
-pub enum SomeFlag {
-    Absent,
-    Present(Flags),
-}
-
 // The arguments record (RULES 5.5).
-#[derive(Clone, Copy)]
+#[derive(Clone, Copy, Default)]
 pub struct InstructionArguments {
-    pub first_argument: SomeArgument,
-    pub second_argument: SomeArgument,
-    pub opcode: SomeOpcode,
-    pub explicit_size: SomeSize,
+    pub first_argument: Option<InstructionArgument>,
+    pub second_argument: Option<InstructionArgument>,
+    pub opcode: Option<u8>,
+    pub explicit_size: Option<ArgumentSize>,
     pub repeat_equal: bool,
     pub repeat_not_equal: bool,
 }
 
 // What the calls on an arguments record refuse: 8, 9, 10 and 11 (RULES 7.1).
-#[derive(Clone, Copy)]
+#[derive(Clone, Copy, Debug, PartialEq, Eq)]
 pub enum Refusal {
-    NoSize,
-    NoFirst,
-    SecondGiven,
-    NoSecond,
+    NoSize = 8,
+    NoFirst = 9,
+    SecondGiven = 10,
+    NoSecond = 11,
 }
 
 impl Refusal {
@@ -217,38 +174,13 @@ impl Refusal {
     pub fn number(self) -> u64
         ensures { result ≡ arguments_number self }
     {
-        match self {
-            Refusal::NoSize => 8,
-            Refusal::NoFirst => 9,
-            Refusal::SecondGiven => 10,
-            Refusal::NoSecond => 11,
-        }
+        self as u64
     }
 }
 
-// The answer of one-argument access (RULES 5.7).
-#[derive(Clone, Copy)]
-pub enum OneArgument {
-    Argument(InstructionArgument),
-    Refused(Refusal),
-}
-
-// The answer of two-argument access (RULES 5.8).
-#[derive(Clone, Copy)]
-pub enum TwoArguments {
-    Arguments(InstructionArgument, InstructionArgument),
-    Refused(Refusal),
-}
-
-// The answer of size selection (RULES 5.6).
-#[derive(Clone, Copy)]
-pub enum Size {
-    Selected(ArgumentSize),
-    Refused(Refusal),
-}
-
 // The number of the parent that r is a part of; a segment, which is no part of any, gives 0 (RULES 2.2). This and the next are the table of
-// names (RULES 2.4), line by line as in specs/Registers.antt: a column each, for a pair would come back through memory.
+// names (RULES 2.4), line by line as in specs/Registers.antt: a column each, for a pair would come back
+// through memory (66 instructions to read a register, and not 57).
 #[tactic(auto, unfolding(crate::specs::Registers::row))]
 pub fn get_parent(r: Register) -> usize
     ensures { result ≡ parent_of r }
@@ -441,7 +373,7 @@ pub fn first_lane(part: Part) -> usize
     }
 }
 
-// How many lanes are read of a part, from the lowest on.
+// How many lanes are read of a part, from the lowest on. (This and the next are columns of a table, line by line as in specs/.)
 pub fn lanes_read(part: Part) -> usize
     ensures { result ≡ lanes_read part }
 {
@@ -505,12 +437,7 @@ pub fn size_bytes(size: ArgumentSize) -> usize
 pub fn size_bits(size: ArgumentSize) -> u32
     ensures { result ≡ 8 * bytes_of size }
 {
-    match size {
-        ArgumentSize::Bit64 => 64,
-        ArgumentSize::Bit32 => 32,
-        ArgumentSize::Bit16 => 16,
-        ArgumentSize::Bit8 => 8,
-    }
+    8 * size_bytes(size) as u32
 }
 
 // Which bit of rflags a flag is (RULES 2.8).
@@ -527,106 +454,82 @@ pub fn flag_bit(flag: Flags) -> u32
     }
 }
 
-// A flag's number, 0 to 5, by which places, records and hosts name it.
+// A flag's number, 0 to 5, by which places, records and hosts name it: its place in the enum.
 pub fn flag_number(flag: Flags) -> usize
     ensures { result ≡ flag_number flag }
 {
-    match flag {
-        Flags::Carry => 0,
-        Flags::Parity => 1,
-        Flags::Zero => 2,
-        Flags::Sign => 3,
-        Flags::Direction => 4,
-        Flags::Overflow => 5,
-    }
+    flag as usize
 }
 
-// The flag of a number; absent past 5.
-pub fn flag_at(n: u64) -> SomeFlag
+// The flag of a number; none past 5. (It is no `TryFrom`, whose error would say no more than none does.)
+#[tactic(auto, using(crate::proofs::Numbered::no_flag), unfolding(crate::specs::Flags::flag_at))]
+pub fn flag_at(n: u64) -> Option<Flags>
     ensures { result ≡ flag_at n }
 {
     match n {
-        0 => SomeFlag::Present(Flags::Carry),
-        1 => SomeFlag::Present(Flags::Parity),
-        2 => SomeFlag::Present(Flags::Zero),
-        3 => SomeFlag::Present(Flags::Sign),
-        4 => SomeFlag::Present(Flags::Direction),
-        5 => SomeFlag::Present(Flags::Overflow),
-        _ => SomeFlag::Absent,
+        0 => Some(Flags::Carry),
+        1 => Some(Flags::Parity),
+        2 => Some(Flags::Zero),
+        3 => Some(Flags::Sign),
+        4 => Some(Flags::Direction),
+        5 => Some(Flags::Overflow),
+        _ => None,
     }
 }
 
 // The size of an operand that is a register, or the other size.
-fn register_size_or(argument: InstructionArgument, other: Size) -> Size
+fn register_size_or(
+    argument: InstructionArgument,
+    other: Result<ArgumentSize, Refusal>,
+) -> Result<ArgumentSize, Refusal>
     ensures { size_outcome result ≡ register_size_or argument (size_outcome other) }
 {
     match argument {
-        InstructionArgument::Register { register } => Size::Selected(get_register_size(register)),
-        InstructionArgument::Immediate { .. } => other,
-        InstructionArgument::EffectiveAddress { .. } => other,
+        InstructionArgument::Register { register } => Ok(get_register_size(register)),
+        _ => other,
     }
 }
 
 impl InstructionArguments {
     // The only argument (RULES 5.7). Refuses 9 without a first, then 10 with a second. No event.
-    pub fn get_one_argument(self) -> OneArgument
+    pub fn get_one_argument(self) -> Result<InstructionArgument, Refusal>
         ensures { one_outcome result ≡ one_argument self }
     {
-        let first = self.first_argument;
-        let second = self.second_argument;
-        let SomeArgument::Present(argument) = first else {
-            return OneArgument::Refused(Refusal::NoFirst);
-        };
-        if let SomeArgument::Present(_) = second {
-            return OneArgument::Refused(Refusal::SecondGiven);
+        let argument = self.first_argument.ok_or(Refusal::NoFirst)?;
+        if self.second_argument.is_some() {
+            return Err(Refusal::SecondGiven);
         }
-        OneArgument::Argument(argument)
+        Ok(argument)
     }
 
     // Both arguments (RULES 5.8). Refuses 9 without a first, then 11 without a second. No event.
-    pub fn get_two_arguments(self) -> TwoArguments
+    pub fn get_two_arguments(self) -> Result<(InstructionArgument, InstructionArgument), Refusal>
         ensures { two_outcome result ≡ two_arguments self }
     {
-        let first = self.first_argument;
-        let second = self.second_argument;
-        let SomeArgument::Present(a) = first else {
-            return TwoArguments::Refused(Refusal::NoFirst);
-        };
-        let SomeArgument::Present(b) = second else {
-            return TwoArguments::Refused(Refusal::NoSecond);
-        };
-        TwoArguments::Arguments(a, b)
+        let first = self.first_argument.ok_or(Refusal::NoFirst)?;
+        let second = self.second_argument.ok_or(Refusal::NoSecond)?;
+        Ok((first, second))
     }
 
     // The explicit size, or that of the first register operand, or Bit64 of a lone operand that is none (RULES 5.6). Refuses 9, then 8.
-    pub fn size(self) -> Size
+    pub fn size(self) -> Result<ArgumentSize, Refusal>
         ensures { size_outcome result ≡ selected_size self }
     {
-        let explicit = self.explicit_size;
-        let first = self.first_argument;
-        let second = self.second_argument;
-        if let SomeSize::Present(size) = explicit {
-            return Size::Selected(size);
+        if let Some(size) = self.explicit_size {
+            return Ok(size);
         }
-        let SomeArgument::Present(a) = first else {
-            return Size::Refused(Refusal::NoFirst);
+        let a = self.first_argument.ok_or(Refusal::NoFirst)?;
+        let Some(b) = self.second_argument else {
+            return register_size_or(a, Ok(ArgumentSize::Bit64));
         };
-        let SomeArgument::Present(b) = second else {
-            return register_size_or(a, Size::Selected(ArgumentSize::Bit64));
-        };
-        register_size_or(a, register_size_or(b, Size::Refused(Refusal::NoSize)))
+        register_size_or(a, register_size_or(b, Err(Refusal::NoSize)))
     }
 }
 
 // What is given of an arguments record so far (RULES 5.5). A part that is given twice keeps the last.
 #[derive(Clone, Copy)]
 pub struct InstructionArgumentsBuilder {
-    pub first_argument: SomeArgument,
-    pub second_argument: SomeArgument,
-    pub opcode: SomeOpcode,
-    pub explicit_size: SomeSize,
-    pub repeat_equal: bool,
-    pub repeat_not_equal: bool,
+    pub arguments: InstructionArguments,
 }
 
 impl InstructionArgumentsBuilder {
@@ -635,12 +538,7 @@ impl InstructionArgumentsBuilder {
         ensures { result ≡ new_builder }
     {
         InstructionArgumentsBuilder {
-            first_argument: SomeArgument::Absent,
-            second_argument: SomeArgument::Absent,
-            opcode: SomeOpcode::Absent,
-            explicit_size: SomeSize::Absent,
-            repeat_equal: false,
-            repeat_not_equal: false,
+            arguments: InstructionArguments::default(),
         }
     }
 
@@ -651,10 +549,8 @@ impl InstructionArgumentsBuilder {
     ) -> InstructionArgumentsBuilder
         ensures { result ≡ with_first self first_argument }
     {
-        InstructionArgumentsBuilder {
-            first_argument: SomeArgument::Present(first_argument),
-            ..self
-        }
+        self.arguments.first_argument = Some(first_argument);
+        self
     }
 
     // Gives the second argument.
@@ -664,30 +560,24 @@ impl InstructionArgumentsBuilder {
     ) -> InstructionArgumentsBuilder
         ensures { result ≡ with_second self second_argument }
     {
-        InstructionArgumentsBuilder {
-            second_argument: SomeArgument::Present(second_argument),
-            ..self
-        }
+        self.arguments.second_argument = Some(second_argument);
+        self
     }
 
     // Gives the opcode.
     pub fn opcode(mut self, opcode: u8) -> InstructionArgumentsBuilder
         ensures { result ≡ with_opcode self opcode }
     {
-        InstructionArgumentsBuilder {
-            opcode: SomeOpcode::Present(opcode),
-            ..self
-        }
+        self.arguments.opcode = Some(opcode);
+        self
     }
 
     // Gives the explicit size.
     pub fn explicit_size(mut self, explicit_size: ArgumentSize) -> InstructionArgumentsBuilder
         ensures { result ≡ with_size self explicit_size }
     {
-        InstructionArgumentsBuilder {
-            explicit_size: SomeSize::Present(explicit_size),
-            ..self
-        }
+        self.arguments.explicit_size = Some(explicit_size);
+        self
     }
 
     // Gives both marks for repetition (RULES 5.5).
@@ -698,28 +588,15 @@ impl InstructionArgumentsBuilder {
     ) -> InstructionArgumentsBuilder
         ensures { result ≡ with_repeat self repeat_equal repeat_not_equal }
     {
-        InstructionArgumentsBuilder {
-            repeat_equal,
-            repeat_not_equal,
-            ..self
-        }
+        self.arguments.repeat_equal = repeat_equal;
+        self.arguments.repeat_not_equal = repeat_not_equal;
+        self
     }
 
     // The record of what was given. A missing part is refused by who asks for it, not here.
     pub fn finalize(self) -> InstructionArguments
         ensures { result ≡ built self }
     {
-        let first_argument = self.first_argument;
-        let second_argument = self.second_argument;
-        let opcode = self.opcode;
-        let explicit_size = self.explicit_size;
-        InstructionArguments {
-            first_argument,
-            second_argument,
-            opcode,
-            explicit_size,
-            repeat_equal: self.repeat_equal,
-            repeat_not_equal: self.repeat_not_equal,
-        }
+        self.arguments
     }
 }

@@ -1,6 +1,8 @@
 -- The five registers whose writing gives an event are those of parents 17 to 21, and no other register has one of these parents. Each fact
 -- is one test that the checker computes at all 80 registers. Assumes nothing.
-use Rattle.std.proofs.Common.{◌≡◌, ℕ, ◌<◌, ◌≤◌, Bool, true, false, cond, T, eqb, ltb, List, [], ◌∷◌, sym, refl, ◌∙◌, subst, eqb→eq, le-ltb, lt-ltb}
+use Rattle.std.proofs.Common.{◌≡◌, ℕ, ◌<◌, ◌≤◌, Bool, true, false, cond, T, eqb, ltb, List, [], ◌∷◌, sym, refl, ◌∙◌, subst, eqb→eq, le-ltb}
+use Rattle.std.proofs.Common.{lt-ltb, not, arith}
+use mathlib.Core.Bool.{beq}
 use mathlib.Core.List.{Memᴰ}
 use denote.Enum.Declared.{tag_of, declared}
 use Rattle.instruction_set.specs.Registers.{row, parent_of}
@@ -10,24 +12,15 @@ use Rattle.instruction_set.specs.contracts.Register.{enum as registers}
 use Rattle.machine_state.specs.Machine.{controls, is_control}
 
 -- ---- by parent
-abbrev other : Bool → Bool
-other b = cond b false true
-
-abbrev alike : Bool → Bool → Bool
-alike a b = cond a b (other b)
-
-alike_same : (a b : Bool) → T (alike a b) → a ≡ b
-alike_same true true t = refl
-alike_same true false t = absurd t
-alike_same false true t = absurd t
-alike_same false false t = refl
+alike_same : (a b : Bool) → T (beq a b) → a ≡ b
+alike_same a b t = grind arith
 
 -- a register is one of the five where its parent is not below 17
-pub control_from_17 : (r : Register) → is_control r ≡ other (ltb (parent_of r) 17)
+pub control_from_17 : (r : Register) → is_control r ≡ not (ltb (parent_of r) 17)
 unfolding row is_control
 control_from_17 r =
-    alike_same (is_control r) (other (ltb (parent_of r) 17))
-    (all registers (λ e. alike (is_control e) (other (ltb (parent_of e) 17))) tt r)
+    alike_same (is_control r) (not (ltb (parent_of r) 17))
+    (all registers (λ e. beq (is_control e) (not (ltb (parent_of e) 17))) tt r)
 
 pub control_below : (r : Register) → parent_of r < 17 → is_control r ≡ false
 control_below r h = rw (control_from_17 r, lt-ltb (parent_of r) 17 h)
@@ -60,7 +53,7 @@ control_places : (r : Register) → is_control r ≡ place_among (place r) contr
 unfolding row is_control
 control_places r =
     alike_same (is_control r) (place_among (place r) controls)
-    (all registers (λ e. alike (is_control e) (place_among (place e) controls)) tt r)
+    (all registers (λ e. beq (is_control e) (place_among (place e) controls)) tt r)
 
 -- a register that gives an event is one of the five that `controls` names
 pub control_named : (r : Register) → is_control r ≡ true → Memᴰ r controls

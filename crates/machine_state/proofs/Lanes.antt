@@ -18,7 +18,8 @@ lane_at m i j = lane j (parent_at m i)
 -- machines that agree on the lanes that r reads give the same value
 pub read_same : (m n : MachineState) (r : Register)
     → ((k : ℕ) → k < lanes_read (part_of r)
-    → lane_at m (parent_of r) (first_lane (part_of r) + k) ≡ lane_at n (parent_of r) (first_lane (part_of r) + k)) → read_reg m r ≡ read_reg n r
+    → lane_at m (parent_of r) (first_lane (part_of r) + k) ≡ lane_at n (parent_of r) (first_lane (part_of r) + k))
+    → read_reg m r ≡ read_reg n r
 unfolding read_reg
 read_same m n r h = read_part_same (part_of r) (parent_at m (parent_of r)) (parent_at n (parent_of r)) h
 

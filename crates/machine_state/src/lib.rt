@@ -9,18 +9,19 @@
 ghost use Rattle.std.specs.Prelude.{◌≡◌, slice_index};
 ghost use Rattle.machine_state.specs.Machine.{new_machine, read_reg, write_reg, event_of, changed};
 ghost use Rattle.machine_state.specs.Flagged.{flag_in, set_flag, compute_flags, compute_sized_flags};
-ghost use Rattle.machine_state.specs.Operating.{operation_answer, operated};
+ghost use Rattle.machine_state.specs.Operating.{operation_given, operated};
 ghost use Rattle.machine_state.specs.Address.{base_of, address_of};
 ghost use Rattle.machine_state.specs.Answers.{refusal_number, said_by, address_outcome};
 ghost use Rattle.machine_state.specs.declared.Event.TheVariants.{Quiet};
 
 use arithmetic::Operation;
-use instruction_set::{
-    ArgumentSize, Flags, InstructionArgument, Register, SomeRegister, SomeScale,
-};
+use instruction_set::{ArgumentSize, Flags, InstructionArgument, Register};
 
 // The parent number of CR0 (RULES 2.2), the first whose write gives an event (RULES 2.7).
 const CR0: usize = 17;
+
+// The parent number of CR3, from which a page walk begins (RULES 2.2, 3.11).
+pub const CR3: usize = 19;
 
 // A machine (RULES 2.1): the 22 parents by their numbers (RULES 2.2), rflags, gdt and idt, laid out as C does, for a host.
 #[repr(C)]
@@ -48,7 +49,7 @@ pub struct Changed {
 }
 
 // 1, 2 and 3 (RULES 7.1), and those of memory.
-#[derive(Clone, Copy)]
+#[derive(Clone, Copy, Debug, PartialEq, Eq)]
 pub enum Refusal {
     NotAnAddress,
     IntoImmediate,
@@ -74,35 +75,28 @@ impl Refusal {
         ensures { result ≡ slice_index (said_by self) 0 }
     {
         match self {
-            Refusal::NotAnAddress => 0,
-            Refusal::IntoImmediate => 0,
-            Refusal::NoScale => 0,
             Refusal::Memory(why) => why.lacking(),
+            _ => 0,
         }
     }
 }
 
-// The answer of the effective address (RULES 3.1): an address, or refusal 1 or 3.
-#[derive(Clone, Copy)]
-pub enum Address {
-    At(u64),
-    Refused(Refusal),
+// What an accepted call gives: nothing but that it is done, a word, or a truth.
+#[derive(Clone, Copy, Debug, PartialEq, Eq)]
+pub enum Given {
+    Nothing,
+    Word(u64),
+    Truth(bool),
 }
 
-// What a call answers: nothing but that it is done, a word, a truth, or a refusal.
-#[derive(Clone, Copy)]
-pub enum Answer {
-    Done,
-    Value(u64),
-    Truth(bool),
-    Refused(Refusal),
-}
+// What a call answers: what it gives, or why it is refused.
+pub type Answer = Result<Given, Refusal>;
 
 // The answer of an operation on two given values, which never refuses (RULES 2.14).
 #[derive(Clone, Copy)]
 pub struct Operated {
     pub machine: MachineState,
-    pub answer: Answer,
+    pub given: Given,
 }
 
 // What a call that reaches memory, or may, hands back: the machine, the slots in use, the event and the answer (RULES 4.8).
@@ -115,13 +109,13 @@ pub struct Answered {
 }
 
 // An operation that gives no value, compare, is done once its flags are set.
-fn operation_answer(operation: Operation, value: u64) -> Answer
-    ensures { result ≡ operation_answer operation value }
+fn operation_given(operation: Operation, value: u64) -> Given
+    ensures { result ≡ operation_given operation value }
 {
     if arithmetic::gives_value(operation) {
-        return Answer::Value(value);
+        return Given::Word(value);
     }
-    Answer::Done
+    Given::Nothing
 }
 
 mod memory; // memory.rt: memory calls, operand values and the stack
@@ -139,7 +133,18 @@ impl MachineState {
         }
     }
 
+    // The machine as it is now, with no event.
+    fn quiet(self) -> Changed
+        ensures { result ≡ changed self Quiet }
+    {
+        Changed {
+            machine: self,
+            event: Event::Quiet,
+        }
+    }
+
     // What a register reads (RULES 2.4). Never refuses.
+    #[tactic(auto, using(instruction_set::proofs::Bounds::parent_below), unfolding(crate::specs::Machine::read_reg))]
     pub fn get_register_value(self, register: Register) -> u64
         ensures { result ≡ read_reg self register }
     {
@@ -149,6 +154,7 @@ impl MachineState {
     }
 
     // The machine with a register written (RULES 2.4, 2.5). Never refuses; the event of a control register, or none (RULES 2.7).
+    #[tactic(auto, using(instruction_set::proofs::Bounds::parent_below, crate::proofs::Controls::control_below, crate::proofs::Controls::control_above), unfolding(crate::specs::Machine::write_reg, crate::specs::Machine::event_of))]
     pub fn set_register_value(mut self, register: Register, value: u64) -> Changed
         ensures { result ≡ changed (write_reg self register value) (event_of register value) }
     {
@@ -156,10 +162,7 @@ impl MachineState {
         let x = self.regs[parent];
         self.regs[parent] = fields::write_part(instruction_set::get_part(register), x, value);
         if parent < CR0 {
-            return Changed {
-                machine: self,
-                event: Event::Quiet,
-            };
+            return self.quiet();
         }
         Changed {
             machine: self,
@@ -179,10 +182,7 @@ impl MachineState {
         ensures { result ≡ changed (set_flag self flag value) Quiet }
     {
         self.rflags = fields::with_flag(self.rflags, flag, value);
-        Changed {
-            machine: self,
-            event: Event::Quiet,
-        }
+        self.quiet()
     }
 
     // The machine with Zero, Sign and Parity of a result: Zero of all 64 bits whatever the size (RULES 2.10). Never refuses; no event.
@@ -190,10 +190,7 @@ impl MachineState {
         ensures { result ≡ changed (compute_flags self res argument_size) Quiet }
     {
         self.rflags = fields::computed_flags(self.rflags, res, argument_size);
-        Changed {
-            machine: self,
-            event: Event::Quiet,
-        }
+        self.quiet()
     }
 
     // As `compute_flags`, but Zero is of the bits of the size, as the processor has it (RULES 2.11). Never refuses; no event.
@@ -201,13 +198,11 @@ impl MachineState {
         ensures { result ≡ changed (compute_sized_flags self res size) Quiet }
     {
         self.rflags = fields::sized_flags(self.rflags, res, size);
-        Changed {
-            machine: self,
-            event: Event::Quiet,
-        }
+        self.quiet()
     }
 
     // Adds, subtracts or compares two given values at a size; sets five flags (RULES 2.12 to 2.14). Never refuses; no event.
+    #[tactic(auto, unfolding(crate::specs::Operating::operated))]
     pub fn operate(
         mut self,
         operation: Operation,
@@ -221,21 +216,18 @@ impl MachineState {
         self.rflags = done.rflags;
         Operated {
             machine: self,
-            answer: operation_answer(operation, done.value),
+            given: operation_given(operation, done.value),
         }
     }
 
-    fn base_value(self, base: SomeRegister) -> u64
+    fn base_value(self, base: Option<Register>) -> u64
         ensures { result ≡ base_of self base }
     {
-        match base {
-            SomeRegister::Absent => 0,
-            SomeRegister::Present(register) => self.get_register_value(register),
-        }
+        base.map_or(0, |register| self.get_register_value(register))
     }
 
     // Base plus displacement plus index times scale, modulo 2^64 (RULES 3.1 to 3.3). Refuses 1, then 3. No event.
-    pub fn calculate_effective_address(self, arg: InstructionArgument) -> Address
+    pub fn calculate_effective_address(self, arg: InstructionArgument) -> Result<u64, Refusal>
         ensures { address_outcome result ≡ address_of self arg }
     {
         let InstructionArgument::EffectiveAddress {
@@ -245,17 +237,17 @@ impl MachineState {
             displacement,
         } = arg
         else {
-            return Address::Refused(Refusal::NotAnAddress);
+            return Err(Refusal::NotAnAddress);
         };
-        let offset = utils::word_of(displacement as i64);
-        let address = std::num::wrapping_add_u64(self.base_value(base), offset);
-        let SomeRegister::Present(register) = index else {
-            return Address::At(address);
+        let offset = utils::word_of(i64::from(displacement));
+        let address = self.base_value(base).wrapping_add(offset);
+        let Some(register) = index else {
+            return Ok(address);
         };
-        let SomeScale::Present(factor) = scale else {
-            return Address::Refused(Refusal::NoScale);
+        let Some(factor) = scale else {
+            return Err(Refusal::NoScale);
         };
-        let scaled = utils::wrapping_mul(self.get_register_value(register), factor as u64);
-        Address::At(std::num::wrapping_add_u64(address, scaled))
+        let scaled = utils::wrapping_mul(self.get_register_value(register), u64::from(factor));
+        Ok(address.wrapping_add(scaled))
     }
 }

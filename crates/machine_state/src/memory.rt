@@ -1,73 +1,68 @@
 // The calls that reach memory: reads and writes by address (RULES 4.1), operand values (5.2, 5.3), and the stack (4.3). A store is lent
 // to each: the directory, the bytes and the count of slots in use. Every call takes the machine and hands it back with the count, the
 // event and the answer (4.8). Memory itself is mmu's; one call here reads it and one writes it, and all others go through these two.
+// `dir`, `bytes` and `used` are lent as three, for any may be lent, and what is no store is refused by mmu (RULES 3.5, 4.8).
 ghost use Rattle.std.specs.Prelude.{◌≡◌, []};
 ghost use Rattle.store.specs.Store.{store_of};
-ghost use Rattle.machine_state.specs.Answers.{result_of};
+ghost use Rattle.machine_state.specs.Answers.{finished, result_of};
 ghost use Rattle.machine_state.specs.Memory.{event_shown, read_memory, write_memory, loaded, stored_at, read_operand, write_operand};
 ghost use Rattle.machine_state.specs.Memory.{pushed, popped};
-ghost use Rattle.machine_state.specs.Private.{finished, from_memory, given_value, given_rsp};
+ghost use Rattle.machine_state.specs.Private.{from_memory, given_value, given_rsp};
 ghost use Rattle.instruction_set.specs.declared.ArgumentSize.TheVariants.{Bit8};
+ghost use Rattle.machine_state.specs.declared.Refusal.TheVariants.{Memory};
 
-use crate::{Address, Answer, Answered, Event, MachineState, Refusal};
+use crate::{Answer, Answered, CR3, Event, Given, MachineState, Refusal};
 use instruction_set::{ArgumentSize, InstructionArgument};
 
-// The parent numbers of RSP and CR3 (RULES 2.2).
+// The parent number of RSP (RULES 2.2).
 const RSP: usize = 4;
 
-const CR3: usize = 19;
-
 // The event of a write that shows this on the screen (RULES 4.5).
-fn event_shown(shown: mmu::Shown) -> Event
+fn event_shown(shown: Option<u8>) -> Event
     ensures { result ≡ event_shown shown }
 {
-    match shown {
-        mmu::Shown::Nothing => Event::Quiet,
-        mmu::Shown::Byte(byte) => Event::Video { byte },
+    shown.map_or(Event::Quiet, |byte| Event::Video { byte })
+}
+
+impl From<mmu::Refusal> for Refusal {
+    ghost from_gives = { λ why refusal. refusal ≡ Memory why };
+
+    fn from(why: mmu::Refusal) -> Refusal {
+        Refusal::Memory(why)
     }
 }
 
-fn from_memory(answer: mmu::Answer) -> Answer
+// Memory's answer as the machine's.
+fn from_memory(answer: Result<(), mmu::Refusal>) -> Answer
     ensures { result ≡ from_memory answer }
 {
-    match answer {
-        mmu::Answer::Done => Answer::Done,
-        mmu::Answer::Refused(why) => Answer::Refused(Refusal::Memory(why)),
-    }
+    answer?;
+    Ok(Given::Nothing)
 }
 
 impl Answered {
     // The value that the call read, where it was accepted.
-    fn with_value(self, value: u64) -> Answered
+    fn with_value(mut self, value: u64) -> Answered
         ensures { result ≡ given_value self value }
     {
-        let read = self.answer;
-        if let Answer::Refused(_) = read {
-            return self;
-        }
-        Answered {
-            answer: Answer::Value(value),
-            ..self
-        }
+        self.answer = self.answer.map(|_| Given::Word(value));
+        self
     }
 
     // rsp moves only where the call was accepted.
-    fn with_rsp(self, rsp: u64) -> Answered
+    fn with_rsp(mut self, rsp: u64) -> Answered
         ensures { result ≡ given_rsp self rsp }
     {
-        let answer = self.answer;
-        if let Answer::Refused(_) = answer {
-            return self;
+        if self.answer.is_ok() {
+            self.machine.regs[RSP] = rsp;
         }
-        let mut machine = self.machine;
-        machine.regs[RSP] = rsp;
-        Answered { machine, ..self }
+        self
     }
 }
 
 impl MachineState {
-    // The machine as it is, with no event.
-    fn quietly(self, used: usize, answer: Answer) -> Answered
+    // The answer of a call that leaves the machine and the count as they are, with no event.
+    pub fn quietly(self, used: usize, answer: Answer) -> Answered
         ensures { result ≡ finished self used answer }
     {
         Answered {
@@ -109,14 +104,13 @@ impl MachineState {
     {
         let cr3 = self.regs[CR3];
         let written = mmu::mem_write(cr3, address, data, dir, bytes, used);
-        let answer = written.answer;
-        let shown = written.shown;
-        let event = event_shown(shown);
+        let event = event_shown(written.shown);
+        let answer = from_memory(written.answer);
         Answered {
             machine: self,
             used: written.used,
             event,
-            answer: from_memory(answer),
+            answer,
         }
     }
 
@@ -167,6 +161,7 @@ impl MachineState {
     }
 
     // The value of an operand: a register ignores the size, and an immediate reads whole (RULES 5.2). Refuses 3, then 4. No event.
+    #[tactic(auto, using(crate::proofs::Steps::address_refused), unfolding(crate::specs::Memory::read_operand))]
     pub fn get_value(
         mut self,
         arg: InstructionArgument,
@@ -178,20 +173,24 @@ impl MachineState {
         ensures { result_of result dir.now bytes.now []
             ≡ read_operand self (store_of dir.now bytes.now used) arg argument_size }
     {
-        if let InstructionArgument::Register { register } = arg {
-            return self.quietly(used, Answer::Value(self.get_register_value(register)));
-        }
-        if let InstructionArgument::Immediate { immediate } = arg {
-            return self.quietly(used, Answer::Value(immediate));
-        }
-        let address = self.calculate_effective_address(arg);
-        match address {
-            Address::At(at) => self.load(at, argument_size, dir, bytes, used),
-            Address::Refused(why) => self.quietly(used, Answer::Refused(why)),
+        match arg {
+            InstructionArgument::Register { register } => {
+                self.quietly(used, Ok(Given::Word(self.get_register_value(register))))
+            }
+            InstructionArgument::Immediate { immediate } => {
+                self.quietly(used, Ok(Given::Word(immediate)))
+            }
+            InstructionArgument::EffectiveAddress { .. } => {
+                match self.calculate_effective_address(arg) {
+                    Ok(at) => self.load(at, argument_size, dir, bytes, used),
+                    Err(why) => self.quietly(used, Err(why)),
+                }
+            }
         }
     }
 
     // Writes an operand: a register ignores the size (RULES 5.3). Refuses 2, 3, 4, 6 in this order; a control or video event, or none.
+    #[tactic(auto, using(crate::proofs::Steps::address_refused), unfolding(crate::specs::Memory::write_operand))]
     pub fn set_value(
         mut self,
         value: u64,
@@ -204,24 +203,25 @@ impl MachineState {
         ensures { result_of result dir.new bytes.new []
             ≡ write_operand self (store_of dir.old bytes.old used) arg argument_size value }
     {
-        if let InstructionArgument::Register { register } = arg {
-            let changed = self.set_register_value(register, value);
-            let event = changed.event;
-            let machine = changed.machine;
-            return Answered {
-                machine,
-                used,
-                event,
-                answer: Answer::Done,
-            };
-        }
-        if let InstructionArgument::Immediate { .. } = arg {
-            return self.quietly(used, Answer::Refused(Refusal::IntoImmediate));
-        }
-        let address = self.calculate_effective_address(arg);
-        match address {
-            Address::At(at) => self.store(at, argument_size, value, dir, bytes, used),
-            Address::Refused(why) => self.quietly(used, Answer::Refused(why)),
+        match arg {
+            InstructionArgument::Register { register } => {
+                let changed = self.set_register_value(register, value);
+                Answered {
+                    machine: changed.machine,
+                    used,
+                    event: changed.event,
+                    answer: Ok(Given::Nothing),
+                }
+            }
+            InstructionArgument::Immediate { .. } => {
+                self.quietly(used, Err(Refusal::IntoImmediate))
+            }
+            InstructionArgument::EffectiveAddress { .. } => {
+                match self.calculate_effective_address(arg) {
+                    Ok(at) => self.store(at, argument_size, value, dir, bytes, used),
+                    Err(why) => self.quietly(used, Err(why)),
+                }
+            }
         }
     }
 
@@ -236,8 +236,7 @@ impl MachineState {
         ensures { result_of result dir.new bytes.new «data».now
             ≡ pushed self (store_of dir.old bytes.old used) «data».now }
     {
-        let rsp = self.regs[RSP];
-        let to = std::num::wrapping_sub_u64(rsp, data.len() as u64);
+        let to = self.regs[RSP].wrapping_sub(data.len() as u64);
         let written = self.mem_write(to, data, dir, bytes, used);
         written.with_rsp(to)
     }
@@ -249,6 +248,6 @@ impl MachineState {
     {
         let rsp = self.regs[RSP];
         let read = self.load(rsp, ArgumentSize::Bit64, dir, bytes, used);
-        read.with_rsp(std::num::wrapping_add_u64(rsp, 8))
+        read.with_rsp(rsp.wrapping_add(8))
     }
 }

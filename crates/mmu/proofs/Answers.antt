@@ -1,5 +1,6 @@
 -- The answers: that an outcome tells its answer, which outcome each case has, when a write is accepted, and what is shown.
 -- Each law is a reading of a definition by its tests.
+use Rattle.std.specs.Prelude.{Option, Some, None, Result, Ok, Err, is_ok, slice_get}
 use mathlib.Core.Path.{◌≡◌, refl, sym, ap, ◌∙◌}
 use mathlib.Core.Bool.{Bool, true, false, cond}
 use mathlib.Core.List.{List, [], ◌∷◌}
@@ -13,17 +14,15 @@ use Rattle.utils.specs.Outcome.{Outcome, gives, refuses, refuses_with}
 use Rattle.store.specs.Store.{Store, store_of, is_store, pages_in_use, unused, read_at, written, touched, absent_of, slots_lacking}
 use Rattle.store.specs.Facts.{IsStore}
 use Rattle.walk.specs.Walk.{physical, translated, read_into}
-use Rattle.writes.specs.Writes.{byte_of, Stored}
+use Rattle.writes.specs.Writes.{byte_of, lacking_of, Stored}
+use Rattle.writes.specs.declared.NotWritten.{NotWritten}
 use Rattle.writes.specs.Private.{Fits}
-use Rattle.mmu.specs.Calls.{memory_number, said_by_memory, memory_outcome, read_outcome, read_out, write_outcome, write_store, cell, shown_at, shown_of}
+use Rattle.mmu.specs.Calls.{memory_number, said_by_memory, memory_outcome, read_outcome, read_out, write_outcome, write_store, cell}
+use Rattle.mmu.specs.Calls.{shown_at, shown_of}
 use Rattle.mmu.specs.Calls.{Wrote}
 use Rattle.mmu.specs.Private.{RefusedFor}
 use Rattle.mmu.specs.declared.Refusal.{Refusal}
 use Rattle.mmu.specs.declared.Refusal.TheVariants.{BadStore, TooLong, NoRoom}
-use Rattle.mmu.specs.declared.Answer.{Answer}
-use Rattle.mmu.specs.declared.Answer.TheVariants.{Done, Refused}
-use Rattle.mmu.specs.declared.Shown.{Shown}
-use Rattle.mmu.specs.declared.Shown.TheVariants.{Nothing as Dark, Byte}
 use Rattle.mmu.specs.declared.Written.{Written}
 use Rattle.store.proofs.Read.{sound_facts, sound_true}
 use Rattle.store.proofs.Absent.{absent_at_most}
@@ -47,12 +46,12 @@ number_some BadStore = omega arith
 number_some TooLong = omega arith
 number_some (NoRoom k) = omega arith
 
-pub outcome_one : (a b : Answer) → memory_outcome a ≡ memory_outcome b → a ≡ b
-outcome_one Done Done e = refl
-outcome_one Done (Refused b) e = absurd (omega (arith, number_some b, ap (λ (o : Outcome ℕ). o.number) e))
-outcome_one (Refused a) Done e = absurd (omega (arith, number_some a, ap (λ (o : Outcome ℕ). o.number) e))
-outcome_one (Refused a) (Refused b) e =
-    ap Refused (refusal_one a b (ap (λ (o : Outcome ℕ). o.number) e) (ap (λ (o : Outcome ℕ). o.values) e))
+pub outcome_one : (a b : Result (Unit {0}) Refusal) → memory_outcome a ≡ memory_outcome b → a ≡ b
+outcome_one (Ok x) (Ok y) e = refl
+outcome_one (Ok x) (Err b) e = absurd (omega (arith, number_some b, ap (λ (o : Outcome ℕ). o.number) e))
+outcome_one (Err a) (Ok y) e = absurd (omega (arith, number_some a, ap (λ (o : Outcome ℕ). o.number) e))
+outcome_one (Err a) (Err b) e =
+    ap Err (refusal_one a b (ap (λ (o : Outcome ℕ). o.number) e) (ap (λ (o : Outcome ℕ). o.values) e))
 
 -- ---- a read
 pub read_bad : (s : Store) (n : ℕ) → is_store s ≡ false → read_outcome s n ≡ refuses 4
@@ -76,6 +75,11 @@ pub out_done : (s : Store) (cr3 a : ℕ) (out : List ℕ) → read_outcome s (le
     → read_out s cr3 a out ≡ read_at s (physical s cr3 a) (length out)
 unfolding read_out
 out_done s cr3 a out e = rw e
+
+pub out_left : (s : Store) (cr3 a : ℕ) (out : List ℕ) (r : Refusal) → memory_outcome (Err r) ≡ read_outcome s (length out)
+    → read_out s cr3 a out ≡ out
+unfolding read_out
+out_left s cr3 a out r e = let n = number_some r in rw (← e) (rw (ne_eqb (memory_number r) 0 (λ q. omega arith)))
 
 -- what is read at the address to which the walk leads
 pub read_there : (s : Store) (cr3 a q : ℕ) (out o : List ℕ) → is_store s ≡ true → q ≡ translated s cr3 a → o ≡ read_into s q out
@@ -108,7 +112,8 @@ write_done s p n e b r = rw (e, le-leb n 4096 b, le-leb _ _ r)
 
 pub write_empty : (s : Store) (p n : ℕ) → is_store s ≡ true → n ≡ 0 → write_outcome s p n ≡ gives []
 write_empty s p n e z =
-    write_done s p n e (omega arith) (rw z (let q : absent_of (pages_in_use s) (touched p 0) ≡ 0 = unfold touched absent_of in refl in omega arith))
+    write_done s p n e (omega arith)
+    (rw z (let q : absent_of (pages_in_use s) (touched p 0) ≡ 0 = unfold touched absent_of in refl in omega arith))
 
 -- accepted exactly when: a sound store, at most 4,096 bytes, and no more absent pages than unused slots
 pub record Accepted (s : Store) (p n : ℕ) : Type 0 where
@@ -119,9 +124,11 @@ pub record Accepted (s : Store) (p n : ℕ) : Type 0 where
 pub accepts_only : (s : Store) (p n : ℕ) → write_outcome s p n ≡ gives [] → Accepted s p n
 unfolding write_outcome
 accepts_only s p n e =
-    go (is_store s) refl (leb n 4096) refl (leb (absent_of (pages_in_use s) (touched p n)) (unused s)) refl (ap (λ (o : Outcome ℕ). o.number) e)
+    go (is_store s) refl (leb n 4096) refl (leb (absent_of (pages_in_use s) (touched p n)) (unused s)) refl
+    (ap (λ (o : Outcome ℕ). o.number) e)
   where
-    go : (a : Bool) → is_store s ≡ a → (b : Bool) → leb n 4096 ≡ b → (c : Bool) → leb (absent_of (pages_in_use s) (touched p n)) (unused s) ≡ c
+    go : (a : Bool) → is_store s ≡ a → (b : Bool) → leb n 4096 ≡ b → (c : Bool)
+        → leb (absent_of (pages_in_use s) (touched p n)) (unused s) ≡ c
         → (cond a (cond b (cond c (gives []) (refuses_with 6 (slots_lacking s p n ∷ []))) (refuses 5)) (refuses 4)).number ≡ 0
         → Accepted s p n
     go true x true y true z w = record { sound = x; short = leb-true _ _ y; room = leb-true _ _ z }
@@ -157,7 +164,7 @@ pub store_refused : (s : Store) (p n : ℕ) (d vs : List ℕ) → 1 ≤ n → wr
 unfolding write_store
 store_refused s p n d vs h e = rw e (rw (ne_eqb n 0 (λ q. omega arith)))
 
-pub dark_refused : (s : Store) (p n : ℕ) (d vs : List ℕ) → 1 ≤ n → write_outcome s p (length d) ≡ refuses_with n vs → shown_of s p d ≡ Dark
+pub dark_refused : (s : Store) (p n : ℕ) (d vs : List ℕ) → 1 ≤ n → write_outcome s p (length d) ≡ refuses_with n vs → shown_of s p d ≡ None
 unfolding shown_of
 dark_refused s p n d vs h e = rw e (rw (ne_eqb n 0 (λ q. omega arith)))
 
@@ -182,24 +189,29 @@ pub cell_on : (p : ℕ) → 0xB8000 ≤ p → p ≤ 0xB8FA0 → p % 2 ≡ 0 → 
 unfolding cell
 cell_on p g h o = rw (le-leb 0xB8000 p g, le-leb p 0xB8FA0 h, eq-eqb (p % 2) 0 o)
 
-pub shown_off : (p : ℕ) (d : List ℕ) → cell p ≡ false → Dark ≡ shown_at p d
+pub shown_off : (p : ℕ) (d : List ℕ) → cell p ≡ false → None ≡ shown_at p d
 unfolding shown_at
 shown_off p [] e = refl
 shown_off p (b ∷ d) e = rw e
 
-pub shown_on : (p : ℕ) (d : List ℕ) → 1 ≤ length d → cell p ≡ true → Byte (get_or d 0 0) ≡ shown_at p d
+pub shown_on : (p : ℕ) (d : List ℕ) → 1 ≤ length d → cell p ≡ true → Some (get_or d 0 0) ≡ shown_at p d
 unfolding shown_at
 shown_on p [] h e = absurd (omega arith)
 shown_on p (b ∷ d) h e = rw e
 
-shown_empty : (p : ℕ) (d : List ℕ) → length d ≡ 0 → Dark ≡ shown_at p d
+pub shown_first : (p : ℕ) (d : List ℕ) → cell p ≡ true → slice_get d 0 ≡ shown_at p d
+unfolding shown_at
+shown_first p [] e = refl
+shown_first p (b ∷ d) e = rw e
+
+shown_empty : (p : ℕ) (d : List ℕ) → length d ≡ 0 → None ≡ shown_at p d
 unfolding shown_at
 shown_empty p [] h = refl
 shown_empty p (b ∷ d) h = absurd (omega arith)
 
 -- ---- all that a write owes, from what the code's steps give
-pub wrote_refused : (s : Store) (p : ℕ) (d : List ℕ) (r : Refusal) → write_outcome s p (length d) ≡ memory_outcome (Refused r)
-    → Wrote s s p d (Refused r) Dark
+pub wrote_refused : (s : Store) (p : ℕ) (d : List ℕ) (r : Refusal) → write_outcome s p (length d) ≡ memory_outcome (Err r)
+    → Wrote s s p d (Err r) None
 wrote_refused s p d r e =
     let n = number_some r in
     record {
@@ -208,48 +220,67 @@ wrote_refused s p d r e =
       store = sym (store_refused s p (memory_number r) d (said_by_memory r) n e);
     }
 
-pub wrote_done : (s t : Store) (p : ℕ) (d : List ℕ) (e : Shown) → write_outcome s p (length d) ≡ gives []
+pub wrote_done : (s t : Store) (p : ℕ) (d : List ℕ) (e : Option ℕ) → write_outcome s p (length d) ≡ gives []
     → t ≡ written s p (byte_of d) (length d) → e ≡ shown_at p d
-    → Wrote s t p d Done e
+    → Wrote s t p d (Ok tt) e
 wrote_done s t p d e o et ee = record { answer = sym o; shown = ee ∙ sym (shown_done s p d o); store = et ∙ sym (store_done s p d o) }
 
 -- length 0: accepted with no walk, and nothing changes
-pub wrote_empty : (s : Store) (p : ℕ) (d : List ℕ) → is_store s ≡ true → length d ≡ 0 → Wrote s s p d Done Dark
-wrote_empty s p d e z = wrote_done s s p d Dark (write_empty s p (length d) e z) (rw z (unfold written in refl)) (shown_empty p d z)
+pub wrote_empty : (s : Store) (p : ℕ) (d : List ℕ) → is_store s ≡ true → length d ≡ 0 → Wrote s s p d (Ok tt) None
+wrote_empty s p d e z = wrote_done s s p d None (write_empty s p (length d) e z) (rw z (unfold written in refl)) (shown_empty p d z)
 
 -- where the walk leads
-pub wrote_there : (c a : ℕ) {s t : Store} {q : ℕ} {d : List ℕ} {r : Answer} {e : Shown} → is_store s ≡ true → q ≡ translated s c a
+pub wrote_there : (c a : ℕ) {s t : Store} {q : ℕ} {d : List ℕ} {r : Result (Unit {0}) Refusal} {e : Option ℕ}
+    → is_store s ≡ true → q ≡ translated s c a
     → Wrote s t q d r e → Wrote s t (physical s c a) d r e
 wrote_there c a h eq w = rw (sym (eq ∙ translated_of _ c a h)) w
 
 -- ---- a write's contract leaves no choice
-pub wrote_one : (s t t' : Store) (p : ℕ) (d : List ℕ) (r r' : Answer) (e e' : Shown) → Wrote s t p d r e → Wrote s t' p d r' e'
+pub wrote_one : (s t t' : Store) (p : ℕ) (d : List ℕ) (r r' : Result (Unit {0}) Refusal)
+    (e e' : Option ℕ) → Wrote s t p d r e → Wrote s t' p d r' e'
     → (r ≡ r') × (e ≡ e') × (t ≡ t')
 wrote_one s t t' p d r r' e e' w w' =
     (outcome_one r r' (w.answer ∙ sym w'.answer), w.shown ∙ sym w'.shown, w.store ∙ sym w'.store)
 
 -- the answer of a refused write, as the code hands it back
 pub wrote_refused_for : (s : Store) (p : ℕ) (d : List ℕ) (r : Refusal) (w : Written) → RefusedFor w r s.used
-    → write_outcome s p (length d) ≡ memory_outcome (Refused r) → Wrote s (store_of s.dir s.bytes w.used) p d w.answer w.shown
+    → write_outcome s p (length d) ≡ memory_outcome (Err r) → Wrote s (store_of s.dir s.bytes w.used) p d w.answer w.shown
 wrote_refused_for s p d r w h e = rw (h.answer, h.count, h.dark) (wrote_refused s p d r e)
 
 -- what `mem_write_phys` did, as the answer of a write: done, or no room
-pub wrote_placed : (s t : Store) (p : ℕ) (d : List ℕ) (b : Bool) (k : ℕ) (e : Shown) → IsStore s → length d ≤ 4096 → Stored s t p d b k
-    → b ≡ true → e ≡ shown_at p d → Wrote s t p d Done e
-wrote_placed s t p d b k e h short w q ee =
+pub wrote_placed : (s t : Store) (p : ℕ) (d : List ℕ) (r : Result ℕ NotWritten) (e : Option ℕ) → IsStore s → length d ≤ 4096
+    → Stored s t p d r → is_ok r ≡ true → e ≡ shown_at p d → Wrote s t p d (Ok tt) e
+wrote_placed s t p d r e h short w q ee =
     let x = sound_true s h in
-    wrote_done s t p d e (write_done s p (length d) x short (done_room s t p d b k w x q)) (done_written s t p d b k w q) ee
+    wrote_done s t p d e (write_done s p (length d) x short (done_room s t p d r w x q)) (done_written s t p d r w q) ee
 
 -- no more slots lack than bytes are written
-pub lacking_small : (s t : Store) (p : ℕ) (d : List ℕ) (b : Bool) (k : ℕ) → IsStore s → length d ≤ 4096 → Stored s t p d b k → k ≤ 4096
-lacking_small s t p d b k h short w =
-    omega (arith, lacks_so_many s t p d b k w (sound_true s h), absent_at_most (pages_in_use s) p (length d))
+pub lacking_small : (s t : Store) (p : ℕ) (d : List ℕ) (r : Result ℕ NotWritten) → IsStore s → length d ≤ 4096 → Stored s t p d r
+    → lacking_of r ≤ 4096
+lacking_small s t p d r h short w =
+    omega (arith, lacks_so_many s t p d r w (sound_true s h), absent_at_most (pages_in_use s) p (length d))
 
 -- with as many slots lacking as it says
-pub wrote_lacking : (s t : Store) (p : ℕ) (d : List ℕ) (b : Bool) (k : ℕ) (r : Written) → IsStore s → length d ≤ 4096 → Stored s t p d b k
-    → b ≡ false → RefusedFor r (NoRoom k) t.used → Wrote s (store_of t.dir t.bytes r.used) p d r.answer r.shown
-wrote_lacking s t p d b k r h short w q f =
+pub wrote_lacking : (s t : Store) (p : ℕ) (d : List ℕ) (r : Result ℕ NotWritten) (k : ℕ) (o : Written) → IsStore s → length d ≤ 4096
+    → Stored s t p d r → is_ok r ≡ false → k ≡ lacking_of r → RefusedFor o (NoRoom k) t.used
+    → Wrote s (store_of t.dir t.bytes o.used) p d o.answer o.shown
+wrote_lacking s t p d r k o h short w q z f =
     let x = sound_true s h in
-    let o = write_full s p (length d) x short (lacks_room s t p d b k w x q) in
-    let n : refuses_with 6 (slots_lacking s p (length d) ∷ []) ≡ memory_outcome (Refused (NoRoom k)) = rw (lacks_so_many s t p d b k w x) in
-    rw (f.answer, f.count, f.dark) (rw (lacks_same s t p d b k w q) (wrote_refused s p d (NoRoom k) (o ∙ n)))
+    let full = write_full s p (length d) x short (lacks_room s t p d r w x q) in
+    let n : refuses_with 6 (slots_lacking s p (length d) ∷ []) ≡ memory_outcome (Err (NoRoom k)) = rw (z, lacks_so_many s t p d r w x) in
+    rw (f.answer, f.count, f.dark) (rw (lacks_same s t p d r w q) (wrote_refused s p d (NoRoom k) (full ∙ n)))
+
+-- a read and a write of as many bytes are refused alike with 4 and 5
+pub refused_alike : (s : Store) (p m n : ℕ) (r : Refusal) → m ≡ n → memory_outcome (Err r) ≡ read_outcome s m
+    → write_outcome s p n ≡ memory_outcome (Err r)
+unfolding read_outcome write_outcome
+refused_alike s p m n r k e = go (is_store s) (leb n 4096) (rw k at e)
+  where
+    last : Outcome ℕ
+    last = cond (leb (absent_of (pages_in_use s) (touched p n)) (unused s)) (gives []) (refuses_with 6 (slots_lacking s p n ∷ []))
+
+    go : (a b : Bool) → memory_outcome (Err r) ≡ cond a (cond b (gives []) (refuses 5)) (refuses 4)
+        → cond a (cond b last (refuses 5)) (refuses 4) ≡ memory_outcome (Err r)
+    go true true q = absurd (omega (arith, number_some r, ap (λ (o : Outcome ℕ). o.number) q))
+    go true false q = sym q
+    go false b q = sym q

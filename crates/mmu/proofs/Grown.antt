@@ -28,7 +28,8 @@ pub lacks_only : (s : Store) (p n : ℕ) → (write_outcome s p n).number ≡ 6 
 unfolding write_outcome
 lacks_only s p n e = go (is_store s) refl (leb n 4096) refl (leb (absent_of (pages_in_use s) (touched p n)) (unused s)) refl e
   where
-    go : (a : Bool) → is_store s ≡ a → (b : Bool) → leb n 4096 ≡ b → (c : Bool) → leb (absent_of (pages_in_use s) (touched p n)) (unused s) ≡ c
+    go : (a : Bool) → is_store s ≡ a → (b : Bool) → leb n 4096 ≡ b → (c : Bool)
+        → leb (absent_of (pages_in_use s) (touched p n)) (unused s) ≡ c
         → (cond a (cond b (cond c (gives []) (refuses_with 6 (slots_lacking s p n ∷ []))) (refuses 5)) (refuses 4)).number ≡ 6
         → Lacks s p n
     go true x true y false z w = record { sound = x; short = leb-true _ _ y; room = leb-false _ _ z }

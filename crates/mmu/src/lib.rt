@@ -2,27 +2,29 @@
 // owns CR3 and passes it in; below it, walk goes from an address to a physical one and reads bytes there, writes writes them, and store
 // says what the lent slices are. Each public call takes every input, and its contract (specs/Calls.antt) fixes the answer, the count of
 // slots in use, what is shown and every lent byte, refused or not (RULES 9.1).
+// `dir`, `bytes` and `used` are lent as three: any slices and number may be, and what is no store is refused (RULES 3.5, 4.8), so they
+// have no invariant until that is asked.
 // It carries RULES 3.14, 4.1, 4.5 and 4.6: a call's order of steps and what the screen shows; and refusals 4, 5 and 6 (7.1, 7.2) with
 // what 6 says (7.5).
 #![tactic(auto)]
 
-ghost use Rattle.std.specs.Prelude.{◌≡◌, ◌≤◌, length, get_or};
-ghost use Rattle.store.specs.Store.{page_size, store_of};
+ghost use Rattle.std.specs.Prelude.{◌≡◌, ◌≤◌, length, get_or, true, OnOk};
+ghost use Rattle.store.specs.Store.{page_size, store_of, is_store};
 ghost use Rattle.store.specs.Facts.{IsStore};
 ghost use Rattle.walk.specs.Walk.{physical};
 ghost use Rattle.mmu.specs.Private.{RefusedFor};
-ghost use Rattle.mmu.specs.Calls.{memory_number, said_by_memory, memory_outcome, read_outcome, read_out, shown_at, Wrote};
+ghost use Rattle.mmu.specs.Calls.{memory_number, said_by_memory, memory_outcome, read_outcome, read_out, cell, shown_at, Wrote};
 
 use store::is_store;
 use walk::{mem_read_phys, translate_virtual_to_physical_address};
-use writes::mem_write_phys;
+use writes::{NotWritten, mem_write_phys};
 
 // The most bytes of one access (RULES 4.1).
 const LONGEST: usize = store::PAGE_SIZE;
 
 // 4, 5 and 6 (RULES 7.1); 6 says how many slots lack (RULES 7.5). They are no more than the bytes of an access, so 32 bits hold them, and
 // every answer that holds a refusal stays small.
-#[derive(Clone, Copy)]
+#[derive(Clone, Copy, Debug, PartialEq, Eq)]
 pub enum Refusal {
     BadStore,
     TooLong,
@@ -46,33 +48,34 @@ impl Refusal {
         ensures { result ≡ get_or (said_by_memory self) 0 0 }
     {
         match self {
-            Refusal::BadStore => 0,
-            Refusal::TooLong => 0,
+            Refusal::BadStore | Refusal::TooLong => 0,
             Refusal::NoRoom { lacking } => lacking as usize,
         }
     }
 }
 
-// What an access answers: it has no value.
-#[derive(Clone, Copy)]
-pub enum Answer {
-    Done,
-    Refused(Refusal),
-}
-
-// What a write shows on the screen: the video event (RULES 4.5).
-#[derive(Clone, Copy)]
-pub enum Shown {
-    Nothing,
-    Byte(u8),
-}
-
-// What a write leaves beside the slices: its answer, the slots in use afterwards, and what the screen shows.
-#[derive(Clone, Copy)]
+// What a write leaves beside the slices: its answer, the slots in use afterwards, and what the screen shows. All three stand beside a
+// refusal too, as `Wrote` promises of them, so they are no part of the answer's `Ok`.
+#[derive(Clone, Copy, Debug, PartialEq, Eq)]
 pub struct Written {
-    pub answer: Answer,
+    pub answer: Result<(), Refusal>,
     pub used: usize,
-    pub shown: Shown,
+    pub shown: Option<u8>,
+}
+
+// Whether an access of so many bytes begins: refuses 4, then 5 (RULES 7.2).
+#[tactic(auto, unfolding(crate::specs::Calls::read_outcome))]
+fn admit(length: usize, dir: &[u64], bytes: &[u8], used: usize) -> Result<(), Refusal>
+    ensures told { memory_outcome result ≡ read_outcome (store_of dir.now bytes.now used) length }
+    ensures sound { OnOk result ((is_store (store_of dir.now bytes.now used) ≡ true) × (length ≤ page_size)) }
+{
+    if !is_store(dir, bytes, used) {
+        return Err(Refusal::BadStore);
+    }
+    if LONGEST < length {
+        return Err(Refusal::TooLong);
+    }
+    Ok(())
 }
 
 // The bytes at an address fill `out` (RULES 4.1). Refuses 4, then 5; then length 0 is done, with no walk (RULES 4.6). Shows nothing.
@@ -83,22 +86,16 @@ pub fn mem_read(
     dir: &[u64],
     bytes: &[u8],
     used: usize,
-) -> Answer
+) -> Result<(), Refusal>
     ensures { (memory_outcome result ≡ read_outcome (store_of dir.now bytes.now used) (length out.old))
         × (out.new ≡ read_out (store_of dir.now bytes.now used) cr3 address out.old) }
 {
-    if !is_store(dir, bytes, used) {
-        return Answer::Refused(Refusal::BadStore);
+    admit(out.len(), dir, bytes, used)?;
+    if !out.is_empty() {
+        let p = translate_virtual_to_physical_address(cr3, address, dir, bytes, used);
+        mem_read_phys(p, out, dir, bytes, used);
     }
-    if LONGEST < out.len() {
-        return Answer::Refused(Refusal::TooLong);
-    }
-    if out.len() == 0 {
-        return Answer::Done;
-    }
-    let p = translate_virtual_to_physical_address(cr3, address, dir, bytes, used);
-    mem_read_phys(p, out, dir, bytes, used);
-    Answer::Done
+    Ok(())
 }
 
 // `data` goes to the bytes at an address (RULES 4.1). Refuses 4, then 5; length 0 is then done (RULES 4.6); then 6. May show a byte.
@@ -113,17 +110,14 @@ pub fn mem_write(
     ensures { Wrote (store_of dir.old bytes.old used) (store_of dir.new bytes.new result.used)
         (physical (store_of dir.old bytes.old used) cr3 address) «data».now result.answer result.shown }
 {
-    if !is_store(dir, bytes, used) {
-        return refused(Refusal::BadStore, used);
+    if let Err(why) = admit(data.len(), dir, bytes, used) {
+        return refused(why, used);
     }
-    if LONGEST < data.len() {
-        return refused(Refusal::TooLong, used);
-    }
-    if data.len() == 0 {
+    if data.is_empty() {
         return Written {
-            answer: Answer::Done,
+            answer: Ok(()),
             used,
-            shown: Shown::Nothing,
+            shown: None,
         };
     }
     let p = translate_virtual_to_physical_address(cr3, address, dir, bytes, used);
@@ -136,16 +130,17 @@ fn write_at(p: u64, data: &[u8], dir: &mut [u64], bytes: &mut [u8], used: usize)
     ensures { Wrote (store_of dir.old bytes.old used) (store_of dir.new bytes.new result.used)
         p «data».now result.answer result.shown }
 {
-    let placed = mem_write_phys(p, data, dir, bytes, used);
-    if !placed.done {
-        let lacking = placed.lacking as u32;
-        return refused(Refusal::NoRoom { lacking }, placed.used);
-    }
-    let shown = shown_at(p, data);
-    Written {
-        answer: Answer::Done,
-        used: placed.used,
-        shown,
+    match mem_write_phys(p, data, dir, bytes, used) {
+        Ok(used) => Written {
+            answer: Ok(()),
+            used,
+            shown: shown_at(p, data),
+        },
+        Err(NotWritten::NoStore) => refused(Refusal::BadStore, used),
+        Err(NotWritten::Lacking { slots }) => {
+            let lacking = slots as u32;
+            refused(Refusal::NoRoom { lacking }, used)
+        }
     }
 }
 
@@ -154,25 +149,28 @@ fn refused(why: Refusal, used: usize) -> Written
     ensures { RefusedFor result why used }
 {
     Written {
-        answer: Answer::Refused(why),
+        answer: Err(why),
         used,
-        shown: Shown::Nothing,
+        shown: None,
     }
 }
 
-// Whether the screen shows the first byte of a write: the window has both its ends, and only even addresses are cells (RULES 4.5).
-fn shown_at(p: u64, data: &[u8]) -> Shown
-    requires { 1 ≤ length «data».now }
+// Whether a byte at p shows on the screen: the window has both its ends, and only even addresses are cells (RULES 4.5).
+#[tactic(auto, unfolding(crate::specs::Calls::cell))]
+fn is_cell(p: u64) -> bool
+    ensures { result ≡ cell p }
+{
+    (0xB8000..=0xB8FA0).contains(&p) && p % 2 == 0
+}
+
+// What a write shows: its first byte, if it goes to a cell.
+#[tactic(auto, using(crate::proofs::Answers::shown_off, crate::proofs::Answers::shown_first))]
+fn shown_at(p: u64, data: &[u8]) -> Option<u8>
     ensures { result ≡ shown_at p «data».now }
 {
-    if p < 0xB8000 {
-        return Shown::Nothing;
+    if is_cell(p) {
+        data.first().copied()
+    } else {
+        None
     }
-    if 0xB8FA0 < p {
-        return Shown::Nothing;
-    }
-    if p % 2 != 0 {
-        return Shown::Nothing;
-    }
-    Shown::Byte(data[0])
 }

@@ -8,7 +8,7 @@ use native.Mathlib.Nat.{not-suc-le-zero}
 use native.Mathlib.Omega.{arith}
 use lib.Dec.{eqb}
 use borrow.Author.Tests.{eqb-true, eqb-false}
-use Rattle.utils.proofs.Bools.{tested, and_left, or_none_left, or_none_right}
+use Rattle.std.proofs.lemmas.Bool.{both_ways, cases_Bool, and_parts, or_parts, false_from_ne_true, true_from_ne_false}
 use Rattle.neighbours.specs.Dependent.{some, common}
 
 -- a number below n that has it
@@ -20,7 +20,7 @@ pub record Found (n : ℕ) (f : ℕ → Bool) : Type 0 where
 pub some_found : (n : ℕ) (f : ℕ → Bool) → some n f ≡ true → Found n f
 unfolding some
 some_found zero f h = absurd (let z : ◌≡◌ {A = ℕ} 0 1 = cc in omega arith)
-some_found (suc n) f h = go (tested (f n)) (λ q. some_found n f q)
+some_found (suc n) f h = go (cases_Bool (f n)) (λ q. some_found n f q)
   where
     go : (f n ≡ true) ⊎ (f n ≡ false) → (some n f ≡ true → Found n f) → Found (suc n) f
     go (inl t) rest = record { at = n; below = omega arith; has = t }
@@ -29,18 +29,14 @@ some_found (suc n) f h = go (tested (f n)) (λ q. some_found n f q)
 pub some_none : (n : ℕ) (f : ℕ → Bool) (p : ℕ) → some n f ≡ false → p < n → f p ≡ false
 unfolding some
 some_none zero f p h l = absurd (not-suc-le-zero l)
-some_none (suc n) f p h l = go (tested (eqb p n)) (some_none n f p (or_none_right (f n) (some n f) h))
+some_none (suc n) f p h l = go (cases_Bool (eqb p n)) (some_none n f p (or_parts (f n) (some n f) h).1)
   where
     go : (eqb p n ≡ true) ⊎ (eqb p n ≡ false) → (p < n → f p ≡ false) → f p ≡ false
-    go (inl e) rest = rw (eqb-true p n e) (or_none_left (f n) (some n f) h)
+    go (inl e) rest = rw (eqb-true p n e) (or_parts (f n) (some n f) h).0
     go (inr e) rest = rest (let other : p ≡ n → ⊥ = eqb-false p n e in omega (arith, other))
 
 pub found_some : (n : ℕ) (f : ℕ → Bool) → Found n f → some n f ≡ true
-found_some n f w = go (tested (some n f))
-  where
-    go : (some n f ≡ true) ⊎ (some n f ≡ false) → some n f ≡ true
-    go (inl t) = t
-    go (inr e) = let z : f w.at ≡ false = some_none n f w.at e w.below in let h = w.has in cc
+found_some n f w = true_from_ne_false (some n f) (λ e. both_ways (f w.at) (some_none n f w.at e w.below) w.has)
 
 -- two ways to say of each number the same
 pub some_same : (n : ℕ) (f g : ℕ → Bool) → ((p : ℕ) → f p ≡ g p) → some n f ≡ some n g
@@ -49,10 +45,7 @@ some_same zero f g h = refl
 some_same (suc n) f g h = ap₂ (λ (a b : Bool). a || b) (h n) (some_same n f g h)
 
 or_crossed : (a b c d : Bool) → ((a || b) || (c || d)) ≡ ((a || c) || (b || d))
-or_crossed true b c d = refl
-or_crossed false true true d = refl
-or_crossed false true false d = refl
-or_crossed false false c d = refl
+or_crossed a b c d = grind arith
 
 pub some_or : (n : ℕ) (f g : ℕ → Bool) → some n (λ p. f p || g p) ≡ (some n f || some n g)
 unfolding some
@@ -82,12 +75,8 @@ common_four f a b c d =
 -- nothing is common with what nothing has
 pub common_none : (f g : ℕ → Bool) → ((p : ℕ) → f p ≡ false) → common f g ≡ false
 unfolding common
-common_none f g none = go (tested (common f g))
-  where
-    go : (common f g ≡ true) ⊎ (common f g ≡ false) → common f g ≡ false
-    go (inl t) =
-        let w = some_found 182 (λ p. f p && g p) t in
-        let h : f w.at ≡ true = and_left (f w.at) (g w.at) w.has in
-        let e : f w.at ≡ false = none w.at in
-        let z : common f g ≡ false = cc in z
-    go (inr e) = e
+common_none f g none =
+    false_from_ne_true (common f g)
+    (λ t.
+    let w = some_found 182 (λ p. f p && g p) t in
+    both_ways (f w.at) (none w.at) (and_parts (f w.at) (g w.at) w.has).0)

@@ -6,22 +6,19 @@ use mathlib.Core.Path.{◌≡◌, refl, sym, ap, ap₂, ◌∙◌}
 use mathlib.Core.Logic.{◌⊎◌, inl, inr}
 use mathlib.Core.Bool.{Bool, true, false, cond, ◌&&◌, ◌||◌, and_comm}
 use mathlib.Core.List.{List, [], ◌∷◌, ◌++◌}
-use Rattle.utils.proofs.Bools.{tested, and_left, and_right, first_fails, or_left, or_right}
+use native.Mathlib.Omega.{arith}
+use Rattle.std.proofs.lemmas.Bool.{cases_Bool, and_parts, and_left, or_left, or_right}
 use Rattle.effects.specs.Exposed.{Performed, end}
 use Rattle.neighbours.specs.Swapped.{Swapped, answers_of, Exchanged}
 use Rattle.neighbours.proofs.Parted.{Independent, looks, Alike, Parted}
 
 -- of two that are not both so, where one is so the other is not
 first_is_not : (a b : Bool) → (a && b) ≡ false → b ≡ true → a ≡ false
-first_is_not true b h t = let z : b ≡ false = h in cc
-first_is_not false b h t = refl
+first_is_not a b h t = grind arith
 
 -- a thing emptied or left twice: the order does not matter
 emptied_twice : {H : Type 0} (a b : Bool) (nothing h : H) → cond a nothing (cond b nothing h) ≡ cond b nothing (cond a nothing h)
-emptied_twice true true nothing h = refl
-emptied_twice true false nothing h = refl
-emptied_twice false true nothing h = refl
-emptied_twice false false nothing h = refl
+emptied_twice a b nothing h = grind arith
 
 module _ {C A X S H Z : Type 0} (reads rewrites : C → ℕ → Bool) (reaches : C → Bool) (does : C → X → Performed A X) (shared : X → S)
     (aside : X → H) (place : X → ℕ → Z) (Good : X → Type 0) (key : ℕ) (nothing : H) (empties : C → X → Bool)
@@ -61,9 +58,9 @@ module _ {C A X S H Z : Type 0} (reads rewrites : C → ℕ → Bool) (reaches :
   -- where d looks at what is aside, c leaves it
   unrecalled : (c d : C) (x : X) → Good x → Apart c d → looks reads reaches key d ≡ true → aside (after c x) ≡ aside x
   unrecalled c d x g i l =
-      let quiet : reaches c ≡ false = not_reached c d i (and_left (reaches d) (reads d key) l) in
-      let kept : rewrites c key ≡ false = spared c d key i (and_right (reaches d) (reads d key) l) in
-      owed.leaves c x g (first_fails (reads c key) quiet) ∙ ap (λ (b : Bool). cond b nothing (aside x)) (owed.holds c x g quiet kept)
+      let quiet : reaches c ≡ false = not_reached c d i (and_parts (reaches d) (reads d key) l).0 in
+      let kept : rewrites c key ≡ false = spared c d key i (and_parts (reaches d) (reads d key) l).1 in
+      owed.leaves c x g (and_left _ (reads c key) quiet) ∙ ap (λ (b : Bool). cond b nothing (aside x)) (owed.holds c x g quiet kept)
 
   -- d looks at the same whether or not c has gone before
   unmoved : (c d : C) (x : X) → Good x → Apart c d → Same d (after c x) x
@@ -81,7 +78,7 @@ module _ {C A X S H Z : Type 0} (reads rewrites : C → ℕ → Bool) (reaches :
       ∙ owed.renews c x (after d x) p g (owed.good d x g) (same_sym (unmoved d c x g (flip i))) t
 
   places_alike : (c d : C) (x : X) (p : ℕ) → Good x → Apart c d → place (both c d x) p ≡ place (both d c x) p
-  places_alike c d x p g i = go (tested (rewrites c p)) (tested (rewrites d p))
+  places_alike c d x p g i = go (cases_Bool (rewrites c p)) (cases_Bool (rewrites d p))
     where
       go : (rewrites c p ≡ true) ⊎ (rewrites c p ≡ false) → (rewrites d p ≡ true) ⊎ (rewrites d p ≡ false)
           → place (both c d x) p ≡ place (both d c x) p
@@ -100,7 +97,7 @@ module _ {C A X S H Z : Type 0} (reads rewrites : C → ℕ → Bool) (reaches :
       ∙ owed.moves c x (after d x) g (owed.good d x g) t (same_sym (unmoved d c x g (flip i)))
 
   shared_alike : (c d : C) (x : X) → Good x → Apart c d → shared (both c d x) ≡ shared (both d c x)
-  shared_alike c d x g i = go (tested (reaches c)) (tested (reaches d))
+  shared_alike c d x g i = go (cases_Bool (reaches c)) (cases_Bool (reaches d))
     where
       go : (reaches c ≡ true) ⊎ (reaches c ≡ false) → (reaches d ≡ true) ⊎ (reaches d ≡ false)
           → shared (both c d x) ≡ shared (both d c x)
@@ -122,7 +119,7 @@ module _ {C A X S H Z : Type 0} (reads rewrites : C → ℕ → Bool) (reaches :
       (owed.leaves c x g lc)
 
   aside_alike : (c d : C) (x : X) → Good x → Apart c d → aside (both c d x) ≡ aside (both d c x)
-  aside_alike c d x g i = go (tested (looks reads reaches key c)) (tested (looks reads reaches key d))
+  aside_alike c d x g i = go (cases_Bool (looks reads reaches key c)) (cases_Bool (looks reads reaches key d))
     where
       go : (looks reads reaches key c ≡ true) ⊎ (looks reads reaches key c ≡ false)
           → (looks reads reaches key d ≡ true) ⊎ (looks reads reaches key d ≡ false) → aside (both c d x) ≡ aside (both d c x)

@@ -27,7 +27,8 @@ pub record Alike
   pub beside : looks reads reaches key c ≡ true → aside x ≡ aside y
 
 pub record Parted
-    {C A X S H Z : Type 0} (reads rewrites : C → ℕ → Bool) (reaches : C → Bool) (does : C → X → Performed A X) (shared : X → S) (aside : X → H)
+    {C A X S H Z : Type 0} (reads rewrites : C → ℕ → Bool) (reaches : C → Bool) (does : C → X → Performed A X) (shared : X → S)
+    (aside : X → H)
     (place : X → ℕ → Z) (Good : X → Type 0) (key : ℕ) (nothing : H) (empties : C → X → Bool) : Type 0 where
   pub good : (c : C) (x : X) → Good x → Good (does c x).after
   -- what it does not rewrite it keeps, and memory stays where it does not reach it
@@ -51,7 +52,8 @@ pub record Parted
   pub holds : (c : C) (x : X) → Good x → reaches c ≡ false → rewrites c key ≡ false → empties c x ≡ false
 
 -- with nothing aside it is what the theorem on forgotten readers asks of the calls
-pub nothing_aside : {C A X S Z : Type 0} (reads rewrites : C → ℕ → Bool) (reaches : C → Bool) (does : C → X → Performed A X) (shared : X → S)
+pub nothing_aside : {C A X S Z : Type 0} (reads rewrites : C → ℕ → Bool) (reaches : C → Bool) (does : C → X → Performed A X)
+    (shared : X → S)
     (place : X → ℕ → Z) (Good : X → Type 0) (key : ℕ) → Owed reads rewrites reaches does shared place Good
     → Parted {H = Unit {0}} reads rewrites reaches does shared (λ x. tt) place Good key tt (λ c x. false)
 nothing_aside reads rewrites reaches does shared place Good key owed =

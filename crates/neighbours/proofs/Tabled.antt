@@ -1,13 +1,13 @@
 -- RULES 8.6 for the calls of the table: neighbours that are not dependent may be exchanged. The generic theorem, with what each call owes
 -- and with a machine being its places; and the test by the 182 places says of every place what the theorem wants. Assumes nothing.
-use mathlib.Core.Bool.{Bool, true, false, ◌&&◌, ◌||◌, and_comm}
+use mathlib.Core.Bool.{true, false, ◌&&◌, ◌||◌, and_comm, or_comm, or_assoc}
 use mathlib.Core.List.{List}
 use mathlib.Core.Logic.{◌⊎◌, inl, inr}
-use mathlib.Core.Path.{◌≡◌, refl, ap, ◌∙◌}
+use mathlib.Core.Path.{◌≡◌}
 use Prim.Native.Nat.{ℕ, ◌<◌}
 use native.Mathlib.Decide.{dec_lt}
 use native.Mathlib.Omega.{arith}
-use Rattle.utils.proofs.Bools.{tested, and_left, and_right, both, first_fails, or_left, or_right, or_none_left, or_none_right}
+use Rattle.std.proofs.lemmas.Bool.{both_ways, cases_Bool, and_parts, and_from, and_left, or_left, or_right, or_parts, true_from_ne_false}
 use Rattle.calls.specs.declared.Call.{Call}
 use Rattle.effects.specs.Exposed.{end}
 use Rattle.effects.specs.Places.{place, WellTyped, Act, State, does, reads, rewrites, reaches_memory, place_in, store_in, WellTypedState}
@@ -29,18 +29,18 @@ unmet c d h p = go (dec_lt p 182)
   where
     go : Dec (p < 182) → (in_spans (rewrites_of c) p && touches d p) ≡ false
     go (yes l) = some_none 182 (λ q. in_spans (rewrites_of c) q && touches d q) p h l
-    go (no l) = first_fails (touches d p) (none_above (rewrites_of c) p (rewrites_inside c) (omega (arith, l)))
+    go (no l) = and_left _ (touches d p) (none_above (rewrites_of c) p (rewrites_inside c) (omega (arith, l)))
 
 independent : (a b : Act) → dependent a.call b.call ≡ false → Independent reads rewrites reaches_memory a b
 unfolding dependent reads rewrites
 independent a b h =
     let c = a.call in
     let d = b.call in
-    let rest = or_none_right (meets c d) (meets d c || reaches c && reaches d) h in
+    let rest = (or_parts (meets c d) (meets d c || reaches c && reaches d) h).1 in
     record {
-      forth = unmet c d (or_none_left (meets c d) (meets d c || reaches c && reaches d) h);
-      back = unmet d c (or_none_left (meets d c) (reaches c && reaches d) rest);
-      one_only = or_none_right (meets d c) (reaches c && reaches d) rest;
+      forth = unmet c d (or_parts (meets c d) (meets d c || reaches c && reaches d) h).0;
+      back = unmet d c (or_parts (meets d c) (reaches c && reaches d) rest).0;
+      one_only = (or_parts (meets d c) (reaches c && reaches d) rest).1;
     }
 
 -- ---- a state is its store, what is aside (today nothing) and its places
@@ -57,7 +57,8 @@ cr3_place = 152
 pub neighbours_swap : (a b : Act) (x : State) → WellTyped x.machine → dependent a.call b.call ≡ false → Swapped does a b x
 neighbours_swap a b x g h =
     neighbours reads rewrites reaches_memory does store_in (λ y. tt) place_in WellTypedState cr3_place tt (λ c y. false)
-    (nothing_aside reads rewrites reaches_memory does store_in place_in WellTypedState cr3_place owed) whole_state a b x g (independent a b h)
+    (nothing_aside reads rewrites reaches_memory does store_in place_in WellTypedState cr3_place owed) whole_state a b x g
+    (independent a b h)
 
 -- wherever in a list the two stand
 pub neighbours_exchange : (before : List Act) (a b : Act) (after : List Act) (x : State) → WellTyped x.machine
@@ -67,16 +68,10 @@ neighbours_exchange before a b after x g h =
     exchanged does before a b after x (neighbours_swap a b (end does before x) (ends_well_typed before x g) h)
 
 -- it does not matter which of the two comes first
-swap_first : (a b c : Bool) → (a || (b || c)) ≡ (b || (a || c))
-swap_first true true c = refl
-swap_first true false c = refl
-swap_first false b c = refl
-
 pub dependent_either_way : (c d : Call) → dependent c d ≡ dependent d c
 unfolding dependent
 dependent_either_way c d =
-    swap_first (meets c d) (meets d c) (reaches c && reaches d)
-    ∙ ap (λ (b : Bool). meets d c || (meets c d || b)) (and_comm (reaches c) (reaches d))
+    rw (and_comm (reaches c) (reaches d), ← or_assoc (meets c d) (meets d c), or_comm (meets c d) (meets d c), or_assoc (meets d c))
 
 -- ---- the test in the rule's words (RULES 8.6), both ways
 met : (c d : Call) → meets c d ≡ true → Meets c d
@@ -85,30 +80,25 @@ met c d h =
     let w = some_found 182 (λ p. in_spans (rewrites_of c) p && touches d p) h in
     record {
       at = w.at;
-      rewrites = and_left (in_spans (rewrites_of c) w.at) (touches d w.at) w.has;
-      touched = and_right (in_spans (rewrites_of c) w.at) (touches d w.at) w.has;
+      rewrites = (and_parts (in_spans (rewrites_of c) w.at) (touches d w.at) w.has).0;
+      touched = (and_parts (in_spans (rewrites_of c) w.at) (touches d w.at) w.has).1;
     }
 
 meets_if : (c d : Call) → Meets c d → meets c d ≡ true
-meets_if c d m = go (tested (meets c d))
-  where
-    go : (meets c d ≡ true) ⊎ (meets c d ≡ false) → meets c d ≡ true
-    go (inl t) = t
-    go (inr f) =
-        let e : (in_spans (rewrites_of c) m.at && touches d m.at) ≡ false = unmet c d f m.at in
-        let t : (in_spans (rewrites_of c) m.at && touches d m.at) ≡ true = both m.rewrites m.touched in
-        let z : meets c d ≡ true = cc in z
+meets_if c d m =
+    true_from_ne_false (meets c d)
+    (λ f. both_ways (in_spans (rewrites_of c) m.at && touches d m.at) (unmet c d f m.at) (and_from _ _ m.rewrites m.touched))
 
 pub dependent_says : (c d : Call) → dependent c d ≡ true → Dependent c d
 unfolding dependent
-dependent_says c d h = go (tested (meets c d)) (tested (meets d c))
+dependent_says c d h = go (cases_Bool (meets c d)) (cases_Bool (meets d c))
   where
     go : (meets c d ≡ true) ⊎ (meets c d ≡ false) → (meets d c ≡ true) ⊎ (meets d c ≡ false) → Dependent c d
     go (inl t) u = forth (met c d t)
     go (inr f) (inl t) = back (met d c t)
     go (inr f) (inr e) =
         let m : (reaches c && reaches d) ≡ true = rw (f, e) at h in
-        memory (and_left (reaches c) (reaches d) m) (and_right (reaches c) (reaches d) m)
+        memory (and_parts (reaches c) (reaches d) m).0 (and_parts (reaches c) (reaches d) m).1
 
 pub dependent_where : (c d : Call) → Dependent c d → dependent c d ≡ true
 unfolding dependent
@@ -116,4 +106,4 @@ dependent_where c d (forth m) = or_left (meets c d) (meets d c || reaches c && r
 dependent_where c d (back m) =
     or_right (meets c d) (meets d c || reaches c && reaches d) (or_left (meets d c) (reaches c && reaches d) (meets_if d c m))
 dependent_where c d (memory r s) =
-    or_right (meets c d) (meets d c || reaches c && reaches d) (or_right (meets d c) (reaches c && reaches d) (both r s))
+    or_right (meets c d) (meets d c || reaches c && reaches d) (or_right (meets d c) (reaches c && reaches d) (and_from _ _ r s))

@@ -8,7 +8,7 @@ use native.Mathlib.Decide.{dec_lt}
 use native.Mathlib.Omega.{arith}
 use lib.Dec.{ltb}
 use borrow.Author.Tests.{ltb-true, lt-ltb}
-use Rattle.utils.proofs.Bools.{tested, and_left, and_right, both, or_right}
+use Rattle.std.proofs.lemmas.Bool.{cases_Bool, and_parts, and_from, or_right}
 use Rattle.calls.specs.declared.Call.{Call}
 use Rattle.effects.specs.Rows.{reads_of, rewrites_of, reaches, in_span, in_spans}
 use Rattle.effects.specs.declared.Span.{Span}
@@ -26,7 +26,7 @@ ends a b = min (a.start + a.count) (b.start + b.count)
 
 pub spans_test : (a b : Span) → a.start + a.count ≤ 182 → ltb (starts a b) (ends a b) ≡ common (in_span a) (in_span b)
 unfolding common
-spans_test a b inside = go (tested (ltb (starts a b) (ends a b))) (tested (common (in_span a) (in_span b)))
+spans_test a b inside = go (cases_Bool (ltb (starts a b) (ends a b))) (cases_Bool (common (in_span a) (in_span b)))
   where
     go : (ltb (starts a b) (ends a b) ≡ true) ⊎ (ltb (starts a b) (ends a b) ≡ false)
         → (common (in_span a) (in_span b) ≡ true) ⊎ (common (in_span a) (in_span b) ≡ false)
@@ -37,13 +37,13 @@ spans_test a b inside = go (tested (ltb (starts a b) (ends a b))) (tested (commo
         t ∙ sym (found_some 182 (λ q. in_span a q && in_span b q) (record {
           at = p;
           below = omega (arith, inside);
-          has = both (in_yes a p (omega arith) (omega arith)) (in_yes b p (omega arith) (omega arith));
+          has = and_from _ _ (in_yes a p (omega arith) (omega arith)) (in_yes b p (omega arith) (omega arith));
         }))
     go (inr f) (inl t) =
         let w = some_found 182 (λ q. in_span a q && in_span b q) t in
         let p = w.at in
-        let in-a = and_left (in_span a p) (in_span b p) w.has in
-        let in_b = and_right (in_span a p) (in_span b p) w.has in
+        let in-a = (and_parts (in_span a p) (in_span b p) w.has).0 in
+        let in_b = (and_parts (in_span a p) (in_span b p) w.has).1 in
         let low-a = in_low a p in-a in
         let high-a = in_high a p in-a in
         let low-b = in_low b p in_b in
@@ -93,10 +93,7 @@ both_reach c d h =
 
 -- what both rewrite need not be looked for twice
 three_suffice : (a b c : Bool) → ((a || b) || c) ≡ ((a || b) || ((c || b) || false))
-three_suffice true b c = refl
-three_suffice false true c = refl
-three_suffice false false true = refl
-three_suffice false false false = refl
+three_suffice a b c = grind arith
 
 pub places_decide : (c d : Call) → (reaches c && reaches d) ≡ false
     → ((common (in_spans (rewrites_of c)) (in_spans (reads_of d)) || common (in_spans (rewrites_of c)) (in_spans (rewrites_of d)))

@@ -5,32 +5,20 @@
 // It carries RULES 8.6 (No. 7).
 #![tactic(auto)]
 
-ghost use Rattle.std.specs.Prelude.{◌≡◌, ◌+◌, ◌≤◌, max, min};
+ghost use Rattle.std.specs.Prelude.{◌≡◌, ◌+◌, ◌≤◌};
 ghost use Rattle.effects.specs.Rows.{in_span, in_spans, Inside};
 ghost use Rattle.neighbours.specs.Dependent.{common, dependent};
 
 use calls::Call;
 use effects::{Span, Spans};
 
-fn later(x: usize, y: usize) -> usize
-    ensures { result ≡ max x y }
-{
-    if x < y { y } else { x }
-}
-
-fn earlier(x: usize, y: usize) -> usize
-    ensures { result ≡ min x y }
-{
-    if x < y { x } else { y }
-}
-
 // Whether some place stands in both spans: then the later start lies before the earlier end.
 fn spans_meet(a: Span, b: Span) -> bool
     requires { (a.start + a.count ≤ 182) × (b.start + b.count ≤ 182) }
     ensures { result ≡ common (in_span a) (in_span b) }
 {
-    let start = later(a.start, b.start);
-    let end = earlier(a.start + a.count, b.start + b.count);
+    let start = a.start.max(b.start);
+    let end = (a.start + a.count).min(b.start + b.count);
     start < end
 }
 
@@ -58,7 +46,8 @@ fn rows_meet(row: Spans, other: Spans) -> bool
         | span_meets_row(row.four, other)
 }
 
-// Whether a place is rewritten by one call and read or rewritten by the other, or both reach memory (RULES 8.6). If not, they may be exchanged.
+// Whether a place is rewritten by one call and read or rewritten by the other, or both reach memory (RULES 8.6). If not, they may
+// be exchanged.
 pub fn depends(a: Call, b: Call) -> bool
     ensures { result ≡ dependent a b }
 {

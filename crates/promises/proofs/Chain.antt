@@ -12,7 +12,7 @@ use borrow.Author.Tests.{leb-true, leb-false, le-leb, lt-leb, ltb-true, ltb-fals
 use lib.Dec.{eqb, leb, ltb}
 use lib.ListN.{length, drop}
 use lib.Pow.{pow-add, pow_pos}
-use Rattle.utils.proofs.Bools.{tested}
+use Rattle.std.proofs.lemmas.Bool.{cases_Bool}
 use Rattle.utils.proofs.Extend.{extend_back}
 use Rattle.utils.specs.Outcome.{Outcome, gives}
 use Rattle.utils.specs.Word.{extend}
@@ -31,7 +31,8 @@ use Rattle.machine_state.specs.Flagged.{flag_in}
 use Rattle.machine_state.specs.Operating.{operated}
 use Rattle.calls.specs.Step.{step}
 use Rattle.effects.specs.Exposed.{Seen, end, rewritten, trace}
-use Rattle.effects.specs.Places.{Act, State, WellTyped, CallAnswer, rewrites, reads, reaches_memory, store_in, place_in, WellTypedState, does}
+use Rattle.effects.specs.Places.{Act, State, WellTyped, CallAnswer, rewrites, reads, reaches_memory, store_in, place_in, WellTypedState}
+use Rattle.effects.specs.Places.{does}
 use Rattle.effects.specs.Rows.{flag_place}
 use Rattle.effects.proofs.Forgotten.{kept}
 use Rattle.effects.proofs.Owed.{owed}
@@ -59,7 +60,7 @@ Balanced differences m v out x y c = v + (y + c) ≡ x + m * out
 
 -- ---- one pair of words
 carry_on : (m t : ℕ) → t < 2 * m → t % m + m * bool_bit (leb m t) ≡ t
-carry_on m t l = go (tested (leb m t))
+carry_on m t l = go (cases_Bool (leb m t))
   where
     go : (leb m t ≡ true) ⊎ (leb m t ≡ false) → t % m + m * bool_bit (leb m t) ≡ t
     go (inl h) =
@@ -69,7 +70,7 @@ carry_on m t l = go (tested (leb m t))
     go (inr h) = let r : t % m ≡ t = mod-eq_of_lt (leb-false m t h) in rw h (omega arith)
 
 borrow_on : (m x t : ℕ) → x < m → t ≤ m → (x + m - t) % m + t ≡ x + m * bool_bit (ltb x t)
-borrow_on m x t l k = go (tested (ltb x t))
+borrow_on m x t l k = go (cases_Bool (ltb x t))
   where
     go : (ltb x t ≡ true) ⊎ (ltb x t ≡ false) → (x + m - t) % m + t ≡ x + m * bool_bit (ltb x t)
     go (inl h) =

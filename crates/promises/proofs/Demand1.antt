@@ -1,4 +1,5 @@
 -- Demand 1 of every call: by the call, and within it by whether memory's part is refused. Assumes nothing.
+use Rattle.std.specs.Prelude.{Some, None}
 use mathlib.Core.Bool.{Bool, true, false, cond}
 use mathlib.Core.List.{List, [], ◌∷◌}
 use mathlib.Core.Path.{◌≡◌, refl}
@@ -13,17 +14,15 @@ use Rattle.instruction_set.specs.declared.ArgumentSize.{ArgumentSize}
 use Rattle.instruction_set.specs.declared.ArgumentSize.TheVariants.{Bit64}
 use Rattle.instruction_set.specs.declared.InstructionArgument.{InstructionArgument}
 use Rattle.instruction_set.specs.declared.InstructionArgument.TheVariants as arg
-use Rattle.instruction_set.specs.declared.SomeRegister.TheVariants as reg
-use Rattle.instruction_set.specs.declared.SomeScale.TheVariants as by
 use Rattle.fields.specs.Parts.{memory_value}
 use Rattle.arithmetic.specs.declared.Operation.{Operation}
-use Rattle.arithmetic.specs.declared.Operation.TheVariants.{Add, AddWithCarry, Subtract, SubtractWithBorrow, Compare}
 use Rattle.mmu.specs.Calls.{read_outcome, read_out, write_outcome, write_store, shown_of}
 use Rattle.store.specs.Store.{Store, is_store, pages_in_use, unused, touched, absent_of, slots_lacking}
 use Rattle.walk.specs.Walk.{physical}
 use Rattle.machine_state.specs.Address.{address_of}
-use Rattle.machine_state.specs.Answers.{outcome_of, Result}
-use Rattle.machine_state.specs.Memory.{leaves, word_outcome, cr3, rsp, minus64, read_memory, write_memory, valued, with_value, loaded, stored_at}
+use Rattle.machine_state.specs.Answers.{Value, given_values, CallResult}
+use Rattle.machine_state.specs.Memory.{leaves, word_outcome, cr3, rsp, minus64, read_memory, write_memory, valued, with_value, loaded}
+use Rattle.machine_state.specs.Memory.{stored_at}
 use Rattle.machine_state.specs.Memory.{read_operand, write_operand, rsp_if_accepted, pushed, popped}
 use Rattle.machine_state.specs.Operating.{operated}
 use Rattle.machine_state.specs.declared.Event.TheVariants.{Quiet}
@@ -45,7 +44,8 @@ read_says s n k = go (is_store s) (leb n 4096)
     go true false = refl
     go false b = refl
 
-write_says : (s : Store) (p n : ℕ) → (word_outcome (write_outcome s p n)).values ≡ said_with (write_outcome s p n).number (slots_lacking s p n)
+write_says : (s : Store) (p n : ℕ)
+    → (word_outcome (write_outcome s p n)).values ≡ said_with (write_outcome s p n).number (slots_lacking s p n)
 unfolding write_outcome
 write_says s p n = go (is_store s) (leb n 4096) (leb (absent_of (pages_in_use s) (touched p n)) (unused s))
   where
@@ -85,7 +85,7 @@ module _ (m : MachineState) (s : Store) (a : ℕ) (l : List ℕ) where
       }
 
 -- ---- a value given, rsp moved, other bytes beside
-module _ (m : MachineState) (s : Store) (l : List ℕ) (k : ℕ) (r : Result) where
+module _ (m : MachineState) (s : Store) (l : List ℕ) (k : ℕ) (r : CallResult) where
   beside_untouched : (g : List ℕ) → Untouched m s l k r → Untouched m s g k (with_lent g r)
   beside_untouched g u = record { machine = u.machine; store = u.store; lent = refl; event = u.event; values = u.values }
 
@@ -135,9 +135,9 @@ operand_read : (m : MachineState) (s : Store) (a : InstructionArgument) (z : Arg
 unfolding read_operand address_of
 operand_read m s (arg.Register r) z k h = absurd (h refl)
 operand_read m s (arg.Immediate v) z k h = absurd (h refl)
-operand_read m s (arg.EffectiveAddress b reg.Absent c d) z k h = load_untouched m s _ z k h
-operand_read m s (arg.EffectiveAddress b (reg.Present r) by.Absent d) z k h = plain m s [] k 3 refl
-operand_read m s (arg.EffectiveAddress b (reg.Present r) (by.Present n) d) z k h = load_untouched m s _ z k h
+operand_read m s (arg.EffectiveAddress b None c d) z k h = load_untouched m s _ z k h
+operand_read m s (arg.EffectiveAddress b (Some r) None d) z k h = plain m s [] k 3 refl
+operand_read m s (arg.EffectiveAddress b (Some r) (Some n) d) z k h = load_untouched m s _ z k h
 
 operand_written : (m : MachineState) (s : Store) (a : InstructionArgument) (z : ArgumentSize) (v : ℕ)
     → ((write_operand m s a z v).outcome.number ≡ 0 → ⊥)
@@ -145,27 +145,23 @@ operand_written : (m : MachineState) (s : Store) (a : InstructionArgument) (z : 
 unfolding write_operand address_of
 operand_written m s (arg.Register r) z v h = absurd (h refl)
 operand_written m s (arg.Immediate x) z v h = plain m s [] _ 2 refl
-operand_written m s (arg.EffectiveAddress b reg.Absent k d) z v h = store_untouched m s _ z v h
-operand_written m s (arg.EffectiveAddress b (reg.Present r) by.Absent d) z v h = plain m s [] _ 3 refl
-operand_written m s (arg.EffectiveAddress b (reg.Present r) (by.Present n) d) z v h = store_untouched m s _ z v h
+operand_written m s (arg.EffectiveAddress b None k d) z v h = store_untouched m s _ z v h
+operand_written m s (arg.EffectiveAddress b (Some r) None d) z v h = plain m s [] _ 3 refl
+operand_written m s (arg.EffectiveAddress b (Some r) (Some n) d) z v h = store_untouched m s _ z v h
 
 addressed : (m : MachineState) (s : Store) (l : List ℕ) (a : InstructionArgument) (k : ℕ) → ((word_outcome (address_of m a)).number ≡ 0 → ⊥)
     → Untouched m s l k (step (EffectiveAddress a) m s l)
 unfolding step address_of
 addressed m s l (arg.Register r) k h = plain m s l k 1 refl
 addressed m s l (arg.Immediate v) k h = plain m s l k 1 refl
-addressed m s l (arg.EffectiveAddress b reg.Absent c d) k h = absurd (h refl)
-addressed m s l (arg.EffectiveAddress b (reg.Present r) by.Absent d) k h = plain m s l k 3 refl
-addressed m s l (arg.EffectiveAddress b (reg.Present r) (by.Present n) d) k h = absurd (h refl)
+addressed m s l (arg.EffectiveAddress b None c d) k h = absurd (h refl)
+addressed m s l (arg.EffectiveAddress b (Some r) None d) k h = plain m s l k 3 refl
+addressed m s l (arg.EffectiveAddress b (Some r) (Some n) d) k h = absurd (h refl)
 
 -- an operation on two given values is never refused
-pub never_refused : (o : Operation) (z : ArgumentSize) (a b : ℕ) (m : MachineState) → (outcome_of (operated m o z a b).answer).number ≡ 0
-unfolding operated
-never_refused Add z a b m = refl
-never_refused AddWithCarry z a b m = refl
-never_refused Subtract z a b m = refl
-never_refused SubtractWithBorrow z a b m = refl
-never_refused Compare z a b m = refl
+pub never_refused : (o : Operation) (z : ArgumentSize) (a b : ℕ) (m : MachineState)
+    → (gives {X = Value} (given_values (operated m o z a b).given)).number ≡ 0
+never_refused o z a b m = refl
 
 pub refused_untouched : RefusedUntouched
 unfolding step pushed popped access_of

@@ -1,5 +1,7 @@
 -- Demand 2's laws. One write: from the laws of mmu. Lists: what one call gives to a byte, to a place and to the count, a call at a time,
 -- and then one induction over the list for all of them (`last_is`). Assumes nothing.
+use Rattle.std.specs.Prelude.{Some, None}
+use Rattle.std.proofs.lemmas.Bool.{cases_Bool}
 use mathlib.Core.Bool.{Bool, true, false, cond, ◌&&◌, ◌||◌, and-false}
 use mathlib.Core.List.{List, [], ◌∷◌}
 use mathlib.Core.Logic.{◌⊎◌, inl, inr}
@@ -12,7 +14,6 @@ use lib.Dec.{eqb, ltb, leb}
 use lib.ListN.{length, get_or, set, replicate, length-replicate}
 use lib.Pow.{pow_pos}
 use lib.Seq.{get_or-set_same, get_or-set_other, set-set, set-get_or}
-use Rattle.utils.proofs.Bools.{tested}
 use Rattle.utils.specs.Bytes.{to_bytes, from_bytes}
 use Rattle.utils.proofs.Bytes.{from_to, length_to_bytes}
 use Rattle.instruction_set.specs.Sizes.{bytes_of}
@@ -26,8 +27,6 @@ use Rattle.instruction_set.specs.declared.Flags.{Flags}
 use Rattle.instruction_set.specs.declared.Flags.TheVariants.{Carry, Parity, Zero, Sign, Overflow}
 use Rattle.instruction_set.specs.declared.InstructionArgument.TheVariants as arg
 use Rattle.instruction_set.specs.declared.Register.TheVariants.{RSP}
-use Rattle.instruction_set.specs.declared.SomeRegister.TheVariants as reg
-use Rattle.instruction_set.specs.declared.SomeScale.TheVariants as by
 use Rattle.fields.specs.FlagBits.{bool_bit, even_ones, sign_in}
 use Rattle.fields.proofs.FlagLaws.{flag_back}
 use Rattle.arithmetic.specs.Sums.{worked_at, flags_of, computed_of}
@@ -39,7 +38,7 @@ use Rattle.mmu.proofs.Answers.{read_done, out_done, accepts_only, write_accepted
 use Rattle.mmu.proofs.Laws.{law_out, law_byte, law_read, law_sound, law_walk, law_count}
 use Rattle.walk.proofs.Walked.{physical_off}
 use Rattle.machine_state.specs.Address.{address_of}
-use Rattle.machine_state.specs.Answers.{Value, word, Result}
+use Rattle.machine_state.specs.Answers.{Value, word, CallResult}
 use Rattle.machine_state.specs.Flagged.{set_flag}
 use Rattle.machine_state.specs.Memory.{rsp, cr3, with_rsp, leaves, word_outcome, read_memory, write_memory, loaded, stored_at, read_operand}
 use Rattle.machine_state.specs.Memory.{write_operand, minus64, pushed, popped}
@@ -196,14 +195,14 @@ pub accessed : (c : Call) (m : MachineState) (s : Store) (l : List ℕ) → Acce
 unfolding step read_operand write_operand address_of loaded stored_at pushed popped read_memory write_memory access_of
 accessed (ReadOperand (arg.Register r) z) m s l = record { store = refl; outcome = tt }
 accessed (ReadOperand (arg.Immediate v) z) m s l = record { store = refl; outcome = tt }
-accessed (ReadOperand (arg.EffectiveAddress b reg.Absent k d) z) m s l = record { store = refl; outcome = tt }
-accessed (ReadOperand (arg.EffectiveAddress b (reg.Present r) by.Absent d) z) m s l = record { store = refl; outcome = tt }
-accessed (ReadOperand (arg.EffectiveAddress b (reg.Present r) (by.Present n) d) z) m s l = record { store = refl; outcome = tt }
+accessed (ReadOperand (arg.EffectiveAddress b None k d) z) m s l = record { store = refl; outcome = tt }
+accessed (ReadOperand (arg.EffectiveAddress b (Some r) None d) z) m s l = record { store = refl; outcome = tt }
+accessed (ReadOperand (arg.EffectiveAddress b (Some r) (Some n) d) z) m s l = record { store = refl; outcome = tt }
 accessed (WriteOperand (arg.Register r) z v) m s l = record { store = refl; outcome = tt }
 accessed (WriteOperand (arg.Immediate x) z v) m s l = record { store = refl; outcome = tt }
-accessed (WriteOperand (arg.EffectiveAddress b reg.Absent k d) z v) m s l = record { store = refl; outcome = refl }
-accessed (WriteOperand (arg.EffectiveAddress b (reg.Present r) by.Absent d) z v) m s l = record { store = refl; outcome = tt }
-accessed (WriteOperand (arg.EffectiveAddress b (reg.Present r) (by.Present n) d) z v) m s l = record { store = refl; outcome = refl }
+accessed (WriteOperand (arg.EffectiveAddress b None k d) z v) m s l = record { store = refl; outcome = refl }
+accessed (WriteOperand (arg.EffectiveAddress b (Some r) None d) z v) m s l = record { store = refl; outcome = tt }
+accessed (WriteOperand (arg.EffectiveAddress b (Some r) (Some n) d) z v) m s l = record { store = refl; outcome = refl }
 accessed (EffectiveAddress a) m s l = record { store = refl; outcome = tt }
 accessed Push m s l = record { store = refl; outcome = refl }
 accessed Pop m s l = record { store = refl; outcome = tt }
@@ -217,8 +216,7 @@ accessed (Arithmetic o z a b) m s l = record { store = refl; outcome = tt }
 
 -- what no test decides
 either : {X : Type 0} (b : Bool) (x : X) → cond b x x ≡ x
-either true x = refl
-either false x = refl
+either b x = grind arith
 
 store_stays : (s : Store) (p k : ℕ) (d : List ℕ) → k ≡ (write_outcome s p (length d)).number → eqb k 0 ≡ false → write_store s p d ≡ s
 unfolding write_store
@@ -229,7 +227,7 @@ module _ (m : MachineState) (s : Store) (o : Outcome Value) where
       → byte_at (store_by m s g) q ≡ holding (cond (accepted o) (byte_written m s g q) nothing) (byte_at s q)
   byte_by none q h = rw (either (accepted o) nothing)
   byte_by (reading x n) q h = rw (either (accepted o) nothing)
-  byte_by (writing x d) q h = go (tested (accepted o))
+  byte_by (writing x d) q h = go (cases_Bool (accepted o))
     where
       p : ℕ
       p = physical s (cr3 m) x
@@ -251,7 +249,7 @@ module _ (m : MachineState) (s : Store) (o : Outcome Value) where
   count_by : (g : Access) → OutcomeBy m s o g → (store_by m s g).used ≡ s.used + cond (accepted o) (slots_for m s g) 0
   count_by none h = rw (either {X = ℕ} (accepted o) 0) (omega arith)
   count_by (reading x n) h = rw (either {X = ℕ} (accepted o) 0) (omega arith)
-  count_by (writing x d) h = go (tested (accepted o))
+  count_by (writing x d) h = go (cases_Bool (accepted o))
     where
       p : ℕ
       p = physical s (cr3 m) x
@@ -259,7 +257,8 @@ module _ (m : MachineState) (s : Store) (o : Outcome Value) where
       k : o.number ≡ (write_outcome s p (length d)).number
       k = ap (λ (w : Outcome Value). w.number) h
 
-      go : (accepted o ≡ true) ⊎ (accepted o ≡ false) → (write_store s p d).used ≡ s.used + cond (accepted o) (slots_for m s (writing x d)) 0
+      go : (accepted o ≡ true) ⊎ (accepted o ≡ false)
+          → (write_store s p d).used ≡ s.used + cond (accepted o) (slots_for m s (writing x d)) 0
       go (inl t) = rw t (law_count s p d (write_accepted s p (length d) (sym k ∙ eqb-true o.number 0 t)))
       go (inr f) = rw f (omega (arith, ap (λ (u : Store). u.used) (store_stays s p o.number d k f)))
 
@@ -327,7 +326,7 @@ nowhere p = false
 all_set : (ss : List Setting) (m : MachineState) (p v : ℕ) → WellTyped m → place m p ≡ v → place (set_all ss m) p ≡ held_at ss p v
 all_set [] m p v g e = e
 all_set (s ∷ ss) m p v g e =
-    all_set ss (set_flag m s.flag s.bit) p _ (renewed.good m g) (go (tested (in_span (flag_span s.flag) p)))
+    all_set ss (set_flag m s.flag s.bit) p _ (renewed.good m g) (go (cases_Bool (in_span (flag_span s.flag) p)))
   where
     renewed : Renews nowhere (λ n. set_flag n s.flag s.bit) (in_span (flag_span s.flag))
     renewed = flag_renews s.flag s.bit nowhere
@@ -354,7 +353,7 @@ at_flag f p h =
 
 at_some : (P : ℕ → Type 0) (w : ℕ → Bool) (fs : List Flags) (p : ℕ) → (w p ≡ true → P p) → AtEach fs P → or_flags w fs p ≡ true → P p
 at_some P w [] p first all h = first h
-at_some P w (f ∷ fs) p first all h = at_some P (λ q. w q || in_span (flag_span f) q) fs p (λ e. go (tested (w p)) e) all.1 h
+at_some P w (f ∷ fs) p first all h = at_some P (λ q. w q || in_span (flag_span f) q) fs p (λ e. go (cases_Bool (w p)) e) all.1 h
   where
     go : (w p ≡ true) ⊎ (w p ≡ false) → (w p || in_span (flag_span f) p) ≡ true → P p
     go (inl t) e = first t
@@ -401,9 +400,6 @@ operated_new m z r p g h =
 no_row : {X : Type 0} (p : ℕ) (x y : X) → in_spans noSpans p ≡ true → x ≡ y
 no_row p x y h = let z : in_spans noSpans p ≡ false = nothing_in p in let w : x ≡ y = cc in w
 
-word_lt : (x : ℕ) → x % 2 ^ 64 < 2 ^ 64
-word_lt x = mod-lt x (pow_pos 64)
-
 place_new : (c : Call) (m : MachineState) (s : Store) (l : List ℕ) (p : ℕ) → WellTyped m → accepted (step c m s l).outcome ≡ true
     → in_spans (rewrites_of c) p ≡ true
     → place (step c m s l).machine p ≡ place_value c m l p
@@ -413,8 +409,9 @@ place_new (WriteOperand (arg.Register r) z v) m s l p g o h = write_new r v m p 
 place_new (WriteOperand (arg.Immediate x) z v) m s l p g o h = no_row p _ _ h
 place_new (WriteOperand (arg.EffectiveAddress b i k d) z v) m s l p g o h = no_row p _ _ h
 place_new (EffectiveAddress a) m s l p g o h = no_row p _ _ h
-place_new Push m s l p g o h = rw o (rsp_new m g p (minus64 (rsp m) (length l)) (word_lt _) (sym (one_only (rewrite_span RSP) p) ∙ h))
-place_new Pop m s l p g o h = rw o (rsp_new m g p ((rsp m + 8) % 2 ^ 64) (word_lt _) (sym (one_only (rewrite_span RSP) p) ∙ h))
+place_new Push m s l p g o h =
+    rw o (rsp_new m g p (minus64 (rsp m) (length l)) (mod-lt _ (pow_pos 64)) (sym (one_only (rewrite_span RSP) p) ∙ h))
+place_new Pop m s l p g o h = rw o (rsp_new m g p ((rsp m + 8) % 2 ^ 64) (mod-lt _ (pow_pos 64)) (sym (one_only (rewrite_span RSP) p) ∙ h))
 place_new (ReadMemory a) m s l p g o h = no_row p _ _ h
 place_new (WriteMemory a) m s l p g o h = no_row p _ _ h
 place_new (TestFlag f) m s l p g o h = no_row p _ _ h
@@ -426,9 +423,9 @@ place_new (Arithmetic o e a b) m s l p g w h = operated_new m e (worked_at m.rfl
 one_place : (p : ℕ) (a : Act) (x : State) → WellTyped x.machine
     → place (does a x).after.machine p ≡ holding (place_given p a x) (place x.machine p)
 unfolding does rewrites
-one_place p a x g = go (tested (in_spans (rewrites_of a.call) p)) (tested (accepted r.outcome))
+one_place p a x g = go (cases_Bool (in_spans (rewrites_of a.call) p)) (cases_Bool (accepted r.outcome))
   where
-    r : Result
+    r : CallResult
     r = step a.call x.machine x.store a.lent
 
     v : ℕ

@@ -12,6 +12,7 @@ use lib.Pow.{pow_pos}
 use Rattle.utils.specs.Outcome.{Outcome}
 use Rattle.utils.specs.Word.{extend}
 use Rattle.utils.proofs.Extend.{extend_back}
+use Rattle.std.proofs.lemmas.Bool.{false≢true}
 use Rattle.utils.proofs.Powers.{twice}
 use Rattle.instruction_set.specs.Sizes.{bytes_of}
 use Rattle.instruction_set.specs.declared.ArgumentSize.{ArgumentSize}
@@ -46,9 +47,7 @@ exposed_both (a ∷ some) more p =
     ∙ go (reads a p) (rewrites a p) (exposed reads rewrites some p) (rewritten rewrites some p) (exposed reads rewrites more p)
   where
     go : (r w e v m : Bool) → (r || (not w && (e || (not v && m)))) ≡ ((r || (not w && e)) || (not (w || v) && m))
-    go true w e v m = refl
-    go false true e v m = refl
-    go false false e v m = refl
+    go r w e v m = grind arith
 
 pub drop_exposes : DropExposes
 unfolding exposed
@@ -138,16 +137,13 @@ module _ (z : ArgumentSize) (a b : ℕ) (m : MachineState) (s : Store) (l : List
       neighbours (x + 2 ^ w - (y + 0)) (x + 2 ^ w - (y + 1)) (x + 2 ^ w - (y + 1))
       (sym (difference_value_said false) ∙ sym e ∙ difference_value_said true) (omega arith) (omega arith)
 
-no : {A : Type 0} → ◌≡◌ {A = Bool} false true → A
-no e = let z : ◌≡◌ {A = ℕ} 0 1 = ap bool_bit e in absurd (omega arith)
-
 abbrev valued : Outcome Value → ℕ
 valued o = value_in o.values
 
 pub carry_seen : CarrySeen
 unfolding reads reads_of in_spans in_span
-carry_seen Add z a b m s l h e = no h
+carry_seen Add z a b m s l h e = absurd (false≢true h)
 carry_seen AddWithCarry z a b m s l h e = sum_seen z a b m s l (ap valued e)
-carry_seen Subtract z a b m s l h e = no h
+carry_seen Subtract z a b m s l h e = absurd (false≢true h)
 carry_seen SubtractWithBorrow z a b m s l h e = difference_seen z a b m s l (ap valued e)
-carry_seen Compare z a b m s l h e = no h
+carry_seen Compare z a b m s l h e = absurd (false≢true h)

@@ -1,15 +1,16 @@
 -- The refusals in their order (RULES 7.2), of every tabled call: memory's two outcomes by their tests, then a call at a time. Assumes
 -- nothing.
+use Rattle.std.specs.Prelude.{Some, None}
+use Rattle.std.proofs.lemmas.Bool.{cases_Bool, and_parts}
 use mathlib.Core.Bool.{Bool, true, false, cond, not, ◌&&◌}
 use mathlib.Core.List.{List, [], ◌∷◌}
 use mathlib.Core.Logic.{◌⊎◌, inl, inr}
 use mathlib.Core.Path.{◌≡◌, refl, sym, ◌∙◌, ap}
 use Prim.Native.Nat.{ℕ, ◌≤◌}
 use native.Mathlib.Omega.{arith}
-use borrow.Author.Tests.{ne_eqb, eqb-true, leb-true, le-leb, lt-leb, ltb-true, ltb-false}
+use borrow.Author.Tests.{ne_eqb, eqb-true, leb-true}
 use lib.Dec.{eqb, leb, ltb}
 use lib.ListN.{length, replicate, length-replicate}
-use Rattle.utils.proofs.Bools.{tested, and_left, and_right}
 use Rattle.utils.specs.Bytes.{to_bytes}
 use Rattle.utils.specs.Outcome.{Outcome, gives, refuses, refuses_with}
 use Rattle.instruction_set.specs.Sizes.{bytes_of}
@@ -17,8 +18,6 @@ use Rattle.instruction_set.specs.declared.ArgumentSize.{ArgumentSize}
 use Rattle.instruction_set.specs.declared.ArgumentSize.TheVariants.{Bit64}
 use Rattle.instruction_set.specs.declared.InstructionArgument.{InstructionArgument}
 use Rattle.instruction_set.specs.declared.InstructionArgument.TheVariants as arg
-use Rattle.instruction_set.specs.declared.SomeRegister.TheVariants as reg
-use Rattle.instruction_set.specs.declared.SomeScale.TheVariants as by
 use Rattle.mmu.specs.Calls.{read_outcome, write_outcome}
 use Rattle.store.specs.Store.{Store, is_store, pages_in_use, unused, touched, absent_of, slots_lacking}
 use Rattle.walk.specs.Walk.{physical}
@@ -37,11 +36,7 @@ use Rattle.promises.proofs.Demand1.{never_refused}
 
 -- ---- memory's two outcomes
 not_over : (a b : ℕ) → leb a b ≡ not (ltb b a)
-not_over a b = go (tested (ltb b a))
-  where
-    go : (ltb b a ≡ true) ⊎ (ltb b a ≡ false) → leb a b ≡ not (ltb b a)
-    go (inl t) = let h = ltb-true b a t in rw t (lt-leb a b h)
-    go (inr f) = let h = ltb-false b a f in rw f (le-leb a b h)
+not_over a b = grind arith
 
 read_number : (s : Store) (n : ℕ)
     → (read_outcome s n).number ≡ first_held (check 4 (not (is_store s)) ∷ check 5 (ltb 4096 n) ∷ check 6 false ∷ [])
@@ -55,7 +50,8 @@ read_number s n = rw (not_over n 4096) (go (is_store s) (ltb 4096 n))
 
 write_number : (s : Store) (p n : ℕ)
     → (write_outcome s p n).number
-    ≡ first_held (check 4 (not (is_store s)) ∷ check 5 (ltb 4096 n) ∷ check 6 (ltb (unused s) (absent_of (pages_in_use s) (touched p n))) ∷ [])
+    ≡ first_held (check 4 (not (is_store s)) ∷ check 5 (ltb 4096 n)
+    ∷ check 6 (ltb (unused s) (absent_of (pages_in_use s) (touched p n))) ∷ [])
 unfolding write_outcome
 write_number s p n =
     rw (not_over n 4096, not_over (absent_of (pages_in_use s) (touched p n)) (unused s))
@@ -71,7 +67,7 @@ write_number s p n =
 
 -- ---- a value given: its number is the access's
 valued_number : (o : Outcome Value) (v : ℕ) → (valued o v).number ≡ o.number
-valued_number o v = go (tested (eqb o.number 0))
+valued_number o v = go (cases_Bool (eqb o.number 0))
   where
     go : (eqb o.number 0 ≡ true) ⊎ (eqb o.number 0 ≡ false) → (valued o v).number ≡ o.number
     go (inl t) = rw t (sym (eqb-true o.number 0 t))
@@ -98,27 +94,27 @@ operand_read : (a : InstructionArgument) (z : ArgumentSize) (m : MachineState) (
 unfolding step read_operand address_of access_of reaches
 operand_read (arg.Register r) z m s l = refl
 operand_read (arg.Immediate v) z m s l = refl
-operand_read (arg.EffectiveAddress b reg.Absent k d) z m s l = load_number m s _ z
-operand_read (arg.EffectiveAddress b (reg.Present r) by.Absent d) z m s l = refl
-operand_read (arg.EffectiveAddress b (reg.Present r) (by.Present n) d) z m s l = load_number m s _ z
+operand_read (arg.EffectiveAddress b None k d) z m s l = load_number m s _ z
+operand_read (arg.EffectiveAddress b (Some r) None d) z m s l = refl
+operand_read (arg.EffectiveAddress b (Some r) (Some n) d) z m s l = load_number m s _ z
 
 operand_written : (a : InstructionArgument) (z : ArgumentSize) (v : ℕ) (m : MachineState) (s : Store) (l : List ℕ)
     → (step (WriteOperand a z v) m s l).outcome.number ≡ first_held (checks (WriteOperand a z v) m s l)
 unfolding step write_operand address_of access_of reaches
 operand_written (arg.Register r) z v m s l = refl
 operand_written (arg.Immediate x) z v m s l = refl
-operand_written (arg.EffectiveAddress b reg.Absent k d) z v m s l = store_number m s _ z v
-operand_written (arg.EffectiveAddress b (reg.Present r) by.Absent d) z v m s l = refl
-operand_written (arg.EffectiveAddress b (reg.Present r) (by.Present n) d) z v m s l = store_number m s _ z v
+operand_written (arg.EffectiveAddress b None k d) z v m s l = store_number m s _ z v
+operand_written (arg.EffectiveAddress b (Some r) None d) z v m s l = refl
+operand_written (arg.EffectiveAddress b (Some r) (Some n) d) z v m s l = store_number m s _ z v
 
 addressed : (a : InstructionArgument) (m : MachineState) (s : Store) (l : List ℕ)
     → (step (EffectiveAddress a) m s l).outcome.number ≡ first_held (checks (EffectiveAddress a) m s l)
 unfolding step address_of access_of reaches
 addressed (arg.Register r) m s l = refl
 addressed (arg.Immediate v) m s l = refl
-addressed (arg.EffectiveAddress b reg.Absent k d) m s l = refl
-addressed (arg.EffectiveAddress b (reg.Present r) by.Absent d) m s l = refl
-addressed (arg.EffectiveAddress b (reg.Present r) (by.Present n) d) m s l = refl
+addressed (arg.EffectiveAddress b None k d) m s l = refl
+addressed (arg.EffectiveAddress b (Some r) None d) m s l = refl
+addressed (arg.EffectiveAddress b (Some r) (Some n) d) m s l = refl
 
 -- ---- every call
 pub refused_in_order : RefusedInOrder
@@ -144,10 +140,10 @@ some_numbers (c ∷ cs) = leb 1 c.number && some_numbers cs
 none_held : (cs : List Check) → some_numbers cs ≡ true → eqb (first_held cs) 0 ≡ none_holds cs
 unfolding some_numbers
 none_held [] h = refl
-none_held (c ∷ cs) h = go (tested c.holds) (none_held cs (and_right (leb 1 c.number) (some_numbers cs) h))
+none_held (c ∷ cs) h = go (cases_Bool c.holds) (none_held cs (and_parts (leb 1 c.number) (some_numbers cs) h).1)
   where
     some : 1 ≤ c.number
-    some = leb-true 1 c.number (and_left (leb 1 c.number) (some_numbers cs) h)
+    some = leb-true 1 c.number (and_parts (leb 1 c.number) (some_numbers cs) h).0
 
     go : (c.holds ≡ true) ⊎ (c.holds ≡ false) → eqb (first_held cs) 0 ≡ none_holds cs → eqb (first_held (c ∷ cs)) 0 ≡ none_holds (c ∷ cs)
     go (inl t) r = let k = some in rw t (ne_eqb c.number 0 (λ e. omega arith))

@@ -26,11 +26,11 @@ use Rattle.arithmetic.specs.Sums.{gives_value, worked_at, computed_of}
 use Rattle.arithmetic.specs.declared.Sum.{Sum}
 use Rattle.arithmetic.proofs.Left.{flags_stand, worked_low}
 use Rattle.arithmetic.proofs.Widths.{bits_within}
-use Rattle.machine_state.specs.Answers.{Value, word, outcome_of}
+use Rattle.machine_state.specs.Answers.{Value, word, given_values}
 use Rattle.machine_state.specs.Machine.{with_flags}
 use Rattle.machine_state.specs.Memory.{leaves}
 use Rattle.machine_state.specs.Operating.{operated}
-use Rattle.machine_state.specs.declared.Answer.TheVariants as answer
+use Rattle.machine_state.specs.declared.Given.TheVariants.{Nothing, Word}
 use Rattle.machine_state.specs.declared.Event.TheVariants.{Quiet}
 use Rattle.calls.specs.Step.{step}
 use Rattle.promises.specs.SizedFlags.{FormsAlike, FormsAgree, OneAtBit64, ZeroAlone, DifferExactly, AnswersTold, sized_examples}
@@ -66,7 +66,7 @@ differ_exactly z v = (
     go (no n) h = absurd (h n)
 
 -- ---- the value that an operation answers
-value_said_lem : (b : Bool) (x v : ℕ) → outcome_of (cond b (answer.Value x) answer.Done) ≡ gives (word v ∷ []) → x ≡ v
+value_said_lem : (b : Bool) (x v : ℕ) → gives (given_values (cond b (Word x) Nothing)) ≡ gives (word v ∷ []) → x ≡ v
 value_said_lem true x v e = ap (λ (o : Outcome Value). get_or (values_of o.values) 0 0) e
 value_said_lem false x v e = absurd (omega (arith, ap (λ (o : Outcome Value). length (values_of o.values)) e))
 

@@ -10,14 +10,15 @@ use native.Mathlib.Omega.{arith}
 use borrow.Author.Tests.{ltb-true, ne_eqb}
 use lib.Dec.{eqb, ltb}
 use lib.ListN.{length, get_or, take, drop}
-use Rattle.utils.proofs.Bools.{tested, and_left, and_right}
+use Rattle.std.proofs.lemmas.Bool.{cases_Bool, and_parts}
 use Rattle.utils.specs.Bytes.{to_bytes, from_bytes}
 use Rattle.utils.specs.Outcome.{Outcome, gives, refuses_with}
 use Rattle.utils.specs.Word.{cut, put, extend}
 use Rattle.instruction_set.specs.Registers.{row}
 use Rattle.fields.specs.Parts.{read_of, write_of}
 use Rattle.byte_runs.specs.Runs.{tabulate}
-use Rattle.store.specs.Store.{Store, is_store, pages_in_use, unused, seek, found_in, byte_at, read_at, pages_from, touched, absent_of, with_slots}
+use Rattle.store.specs.Store.{Store, is_store, pages_in_use, unused, seek, found_in, byte_at, read_at, pages_from, touched, absent_of}
+use Rattle.store.specs.Store.{with_slots}
 use Rattle.walk.specs.Walk.{entry_address, word_at, next_table, walked, physical}
 use Rattle.mmu.specs.Calls.{write_outcome, write_store}
 use Rattle.mmu.proofs.Grown.{lacks_only, grown_walk, grown_enough, grown_short, grown_full}
@@ -48,10 +49,10 @@ last_held : (cs : List Check) (b : Bool) → without_six cs ≡ true → eqb (fi
 unfolding without_six
 last_held [] true h = refl
 last_held [] false h = refl
-last_held (c ∷ cs) b h = go (tested c.holds) (last_held cs b (and_right (ltb c.number 6) (without_six cs) h))
+last_held (c ∷ cs) b h = go (cases_Bool c.holds) (last_held cs b (and_parts (ltb c.number 6) (without_six cs) h).1)
   where
     below : c.number < 6
-    below = ltb-true c.number 6 (and_left (ltb c.number 6) (without_six cs) h)
+    below = ltb-true c.number 6 (and_parts (ltb c.number 6) (without_six cs) h).0
 
     go : (c.holds ≡ true) ⊎ (c.holds ≡ false) → eqb (first_held (cs ++ check 6 b ∷ [])) 6 ≡ (none_holds cs && b)
         → eqb (first_held (c ∷ (cs ++ check 6 b ∷ []))) 6 ≡ (none_holds (c ∷ cs) && b)
@@ -80,10 +81,11 @@ six_as_before c m s l =
     ∙ last_held (checked_before c m s l) (no_room m s (access_of c m l)) (six_last c m s l)
 
 -- a call that is refused with 6 writes where there is no room
-six_writes : (c : Call) (m : MachineState) (s : Store) (l : List ℕ) → (step c m s l).outcome.number ≡ 6 → no_room m s (access_of c m l) ≡ true
+six_writes : (c : Call) (m : MachineState) (s : Store) (l : List ℕ) → (step c m s l).outcome.number ≡ 6
+    → no_room m s (access_of c m l) ≡ true
 six_writes c m s l e =
-    and_right (none_holds (checked_before c m s l)) (no_room m s (access_of c m l))
-    (sym (six_as_before c m s l) ∙ ap (λ (n : ℕ). eqb n 6) e)
+    (and_parts (none_holds (checked_before c m s l)) (no_room m s (access_of c m l))
+    (sym (six_as_before c m s l) ∙ ap (λ (n : ℕ). eqb n 6) e)).1
 
 -- ---- what it says
 some_lack : (m : MachineState) (s : Store) (g : Access) → no_room m s g ≡ true → 1 ≤ lacking_for m s g

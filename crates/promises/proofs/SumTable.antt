@@ -10,5 +10,6 @@ use Rattle.promises.specs.SumTable.{sum_table}
 use Rattle.promises.specs.Table.{all_computed, all_stated}
 
 pub sums_hold : all_computed sum_table ≡ all_stated sum_table
-unfolding step operated computed_of worked_of flags_of added subtracted signed outside bit_set put_flag even_ones ones ones_in cut put extend
+unfolding step operated computed_of worked_of flags_of added subtracted signed outside bit_set put_flag even_ones ones ones_in cut put
+    extend
 sums_hold = refl

@@ -26,7 +26,8 @@ use Rattle.machine_state.specs.Memory.{loaded, pushed, read_memory, write_memory
 use Rattle.effects.specs.Exposed.{exposed}
 use Rattle.effects.specs.Places.{reads, rewrites}
 use Rattle.effects.specs.Rows.{reads_of, rewrites_of, in_span, in_spans}
-use Rattle.promises.specs.Table.{minus, number_and_values, eighty, two_slots, one_slot, page_zero, page_tables, eight, after_push, after_top}
+use Rattle.promises.specs.Table.{minus, number_and_values, eighty, two_slots, one_slot, page_zero, page_tables, eight, after_push}
+use Rattle.promises.specs.Table.{after_top}
 use Rattle.promises.specs.Table.{places_of, exposed_of, writing_register, reading_register, pushing_byte, table, all_computed, all_stated}
 use Rattle.promises.proofs.Demand2.{reads_accepted, reads_back, others_stay, sound_after}
 
@@ -72,7 +73,8 @@ unfolding write_memory write_outcome two_slots is_store physical touched pages_f
 push_fits = refl
 
 push_rsp : read_reg after_push.machine RSP ≡ minus 8
-unfolding pushed write_memory write_outcome two_slots is_store physical touched pages_from absent_of found_in seek read_reg read_of row cut extend
+unfolding pushed write_memory write_outcome two_slots is_store physical touched pages_from absent_of found_in seek read_reg read_of row
+    cut extend
 push_rsp = refl
 
 push_store : after_push.store ≡ (write_memory new_machine two_slots (minus 8) eight).store

@@ -2,7 +2,7 @@
 -- count and lent bytes stay as they were, and there is no value and no event; 6 says how many slots lack (RULES 7.5).
 use Rattle.std.specs.Prelude.{List, ◌≡◌, ℕ}
 use Rattle.store.specs.Store.{Store}
-use Rattle.machine_state.specs.Answers.{Result}
+use Rattle.machine_state.specs.Answers.{CallResult}
 use Rattle.machine_state.specs.declared.Event.TheVariants.{Quiet}
 use Rattle.machine_state.specs.declared.MachineState.{MachineState}
 use Rattle.calls.specs.Step.{step}
@@ -11,7 +11,7 @@ use Rattle.promises.specs.Refusals.{access_of}
 use Rattle.promises.specs.SlotsLacking.{lacking_for, said_with}
 
 -- what a refused call leaves: everything as it was; where it is 6 it says k, and otherwise nothing but its number
-pub record Untouched (m : MachineState) (s : Store) (l : List ℕ) (k : ℕ) (r : Result) : Type 0 where
+pub record Untouched (m : MachineState) (s : Store) (l : List ℕ) (k : ℕ) (r : CallResult) : Type 0 where
   pub machine : r.machine ≡ m
   pub store : r.store ≡ s
   pub lent : r.lent ≡ l

@@ -1,7 +1,8 @@
 -- What the definitions of demand 2 shut out (RULES 9.4): a machine that always refuses, one that always reads 0, one whose writes do
 -- nothing, or only the first of a list. What each of them would have to break, as statements about the calls. That a call is accepted
 -- wherever no condition of a refusal holds is `AcceptedExactly`, Refusals.antt.
-use Rattle.std.specs.Prelude.{Bool, true, false, cond, ◌&&◌, List, [], ◌∷◌, ◌⊎◌, ◌≡◌, ℕ, ◌+◌, ◌-◌, ◌*◌, ◌%◌, ◌^◌, ◌<◌, ◌≤◌, eqb, ltb, leb, length, get_or}
+use Rattle.std.specs.Prelude.{Bool, true, false, cond, ◌&&◌, List, [], ◌∷◌, ◌⊎◌, ◌≡◌, ℕ, ◌+◌, ◌-◌, ◌*◌, ◌%◌, ◌^◌, ◌<◌, ◌≤◌, eqb, ltb, leb}
+use Rattle.std.specs.Prelude.{length, get_or}
 use Rattle.utils.specs.Bytes.{from_bytes}
 use Rattle.utils.specs.Outcome.{gives, accepted}
 use Rattle.utils.specs.Word.{lane, extend}

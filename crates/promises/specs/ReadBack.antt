@@ -1,7 +1,7 @@
 -- Operand text read back (RULES 6.10 to 6.12; No. 1). But for `OneReading`, which is of print alone, each promise is about whatever
 -- answer the contract of `read_operands` allows for a text, `Reads t r`, by its number and what it says. `OperandText t` is that printing
 -- gives t. (Both: reading_operands/specs/Reads.antt.)
-use Rattle.std.specs.Prelude.{true, false, List, [], ◌∷◌, ◌≡◌, ℕ, pos, negsuc}
+use Rattle.std.specs.Prelude.{Option, Some, None, true, false, List, [], ◌∷◌, ◌≡◌, ℕ, pos, negsuc}
 use Prim.Native.String.{String}
 use Rattle.utils.specs.Outcome.{Outcome, gives, refuses_with, accepted}
 use Rattle.instruction_set.specs.Operands.{lacks_scale, some_lacks_scale}
@@ -9,20 +9,15 @@ use Rattle.instruction_set.specs.declared.ArgumentSize.{ArgumentSize}
 use Rattle.instruction_set.specs.declared.InstructionArgument.{InstructionArgument}
 use Rattle.instruction_set.specs.declared.InstructionArgument.TheVariants as arg
 use Rattle.instruction_set.specs.declared.Register.TheVariants.{RCX, RBP, ES, ESI}
-use Rattle.instruction_set.specs.declared.SomeArgument.{SomeArgument}
-use Rattle.instruction_set.specs.declared.SomeArgument.TheVariants as some
-use Rattle.instruction_set.specs.declared.SomeRegister.TheVariants as reg
-use Rattle.instruction_set.specs.declared.SomeScale.TheVariants as scale
 use Rattle.text_pieces.specs.Ascii.{ascii}
 use Rattle.text_operands.specs.Operands.{list_text}
-use Rattle.reading_operands.specs.Reads.{WithinSize, Lossless, OfSecond, OperandText, StopsAt, Reads, Finding, operands, offset}
+use Rattle.reading_operands.specs.Reads.{WithinSize, Lossless, OfSecond, OperandText, StopsAt, Reading, Reads, Finding, operands, offset}
 use Rattle.reading_operands.specs.Reads.{operands_outcome}
-use Rattle.reading_operands.specs.declared.Read.{Read}
 
 -- what is read and then printed at a size that holds its immediates gives the same text: print does not refuse it (3), and gives t
 abbrev pub PrintsAgain : Type 0
 PrintsAgain =
-    (t : List ℕ) (r : Read) (x : InstructionArgument) (y : SomeArgument)
+    (t : List ℕ) (r : Reading) (x : InstructionArgument) (y : Option InstructionArgument)
     → Reads t r
     → operands_outcome r ≡ gives (operands x y ∷ [])
     → (size : ArgumentSize)
@@ -34,7 +29,7 @@ PrintsAgain =
 -- whatever sizes
 abbrev pub OneReading : Type 0
 OneReading =
-    (size size' : ArgumentSize) (x x' : InstructionArgument) (y y' : SomeArgument)
+    (size size' : ArgumentSize) (x x' : InstructionArgument) (y y' : Option InstructionArgument)
     → Lossless size x
     → OfSecond (Lossless size) y
     → Lossless size' x'
@@ -46,23 +41,23 @@ OneReading =
 abbrev pub OneAnswer : Type 0
 OneAnswer =
     (t : List ℕ)
-    → ((r : Read) × Reads t r) × ((r s : Read) → Reads t r → Reads t s → r ≡ s)
+    → ((r : Reading) × Reads t r) × ((r s : Reading) → Reads t r → Reads t s → r ≡ s)
 
 -- what is printed and then read comes back, where print loses nothing of it (`Lossless`, RULES 6.11): one operand, or two joined by a
 -- comma
 abbrev pub OperandsReadBack : Type 0
 OperandsReadBack =
-    (size : ArgumentSize) (x : InstructionArgument) (y : SomeArgument)
+    (size : ArgumentSize) (x : InstructionArgument) (y : Option InstructionArgument)
     → Lossless size x
     → OfSecond (Lossless size) y
-    → (r : Read)
+    → (r : Reading)
     → Reads (list_text size x y) r
     → operands_outcome r ≡ gives (operands x y ∷ [])
 
 -- a text is accepted where printing gives it, and only there (RULES 6.10)
 abbrev pub TextAcceptedExactly : Type 0
 TextAcceptedExactly =
-    (t : List ℕ) (r : Read)
+    (t : List ℕ) (r : Reading)
     → Reads t r
     → (OperandText t → accepted (operands_outcome r) ≡ true) × (accepted (operands_outcome r) ≡ true → OperandText t)
 
@@ -70,7 +65,7 @@ TextAcceptedExactly =
 -- the bytes up to it
 abbrev pub OffsetGiven : Type 0
 OffsetGiven =
-    (t : List ℕ) (r : Read)
+    (t : List ℕ) (r : Reading)
     → Reads t r
     → (OperandText t → ⊥)
     → (k : ℕ) × (operands_outcome r ≡ refuses_with 13 (offset k ∷ [])) × StopsAt t k
@@ -83,7 +78,7 @@ pub record Example : Type 0 where
 abbrev pub refused_at : String → ℕ → Example
 refused_at t k = record { text = ascii t; outcome = refuses_with 13 (offset k ∷ []) }
 
-abbrev pub read_as : String → InstructionArgument → SomeArgument → Example
+abbrev pub read_as : String → InstructionArgument → Option InstructionArgument → Example
 read_as t x y = record { text = ascii t; outcome = gives (operands x y ∷ []) }
 
 abbrev pub reading_examples : List Example
@@ -112,15 +107,15 @@ reading_examples =
     ∷ refused_at "%rax,," 5
     ∷ refused_at "%rax,%rbx,%rcx" 9
     ∷ refused_at "%rax\n" 4
-    ∷ read_as "$0xff" (arg.Immediate 255) some.Absent
-    ∷ read_as "$0x1,$0x2" (arg.Immediate 1) (some.Present (arg.Immediate 2))
-    ∷ read_as "%es,%esi" (arg.Register ES) (some.Present (arg.Register ESI))
-    ∷ read_as "-0x80000000" (arg.EffectiveAddress reg.Absent reg.Absent scale.Absent (negsuc 2147483647)) some.Absent
-    ∷ read_as "-0x8(%rbp)" (arg.EffectiveAddress (reg.Present RBP) reg.Absent scale.Absent (negsuc 7)) some.Absent
-    ∷ read_as "0x0(,%rcx,8)" (arg.EffectiveAddress reg.Absent (reg.Present RCX) (scale.Present 8) (pos 0)) some.Absent
+    ∷ read_as "$0xff" (arg.Immediate 255) None
+    ∷ read_as "$0x1,$0x2" (arg.Immediate 1) (Some (arg.Immediate 2))
+    ∷ read_as "%es,%esi" (arg.Register ES) (Some (arg.Register ESI))
+    ∷ read_as "-0x80000000" (arg.EffectiveAddress None None None (negsuc 2147483647)) None
+    ∷ read_as "-0x8(%rbp)" (arg.EffectiveAddress (Some RBP) None None (negsuc 7)) None
+    ∷ read_as "0x0(,%rcx,8)" (arg.EffectiveAddress None (Some RCX) (Some 8) (pos 0)) None
     ∷ []
 
 -- whatever answer is allowed for the text is the one of the table
 abbrev pub EachHolds : List Example → Type 0
 EachHolds [] = Unit {0}
-EachHolds (e ∷ es) = ((r : Read) → Reads e.text r → operands_outcome r ≡ e.outcome) × EachHolds es
+EachHolds (e ∷ es) = ((r : Reading) → Reads e.text r → operands_outcome r ≡ e.outcome) × EachHolds es

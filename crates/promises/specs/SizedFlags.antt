@@ -11,7 +11,7 @@ use Rattle.instruction_set.specs.declared.Flags.TheVariants.{Zero}
 use Rattle.fields.specs.Parts.{low_bits}
 use Rattle.arithmetic.specs.declared.Operation.{Operation}
 use Rattle.store.specs.Store.{Store, store_of}
-use Rattle.machine_state.specs.Answers.{word, Result}
+use Rattle.machine_state.specs.Answers.{word, CallResult}
 use Rattle.machine_state.specs.Flagged.{flag_in, set_flag}
 use Rattle.machine_state.specs.Machine.{new_machine}
 use Rattle.machine_state.specs.Memory.{leaves}
@@ -46,7 +46,7 @@ OneAtBit64 =
     → FormsAlike Bit64 v
 
 -- ---- where they differ, they differ in Zero alone: the sized form leaves what the old one does, with Zero of the low bits
-abbrev pub with_zero : Bool → Result → Result
+abbrev pub with_zero : Bool → CallResult → CallResult
 with_zero b r = leaves (set_flag r.machine Zero b) r.store r.lent r.event r.outcome
 
 abbrev pub ZeroAlone : Type 0

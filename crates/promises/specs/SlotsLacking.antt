@@ -1,13 +1,11 @@
 -- What refusal 6 says: how many slots lack (RULES 7.5, 7.6; No. 5). Stated of every tabled call, by what the call does (`step`, the
 -- contract of `calls::perform`). That no other refusal says anything stands in Demand1.antt.
-use Rattle.std.specs.Prelude.{cond, not, ◌&&◌, List, [], ◌∷◌, ◌++◌, ◌≡◌, ℕ, ◌+◌, ◌-◌, ◌*◌, ◌<◌, ◌≤◌, eqb, pos, length}
+use Rattle.std.specs.Prelude.{cond, not, ◌&&◌, List, [], ◌∷◌, ◌++◌, ◌≡◌, ℕ, ◌+◌, ◌-◌, ◌*◌, ◌<◌, ◌≤◌, eqb, pos, length, Some, None}
 use Rattle.utils.specs.Outcome.{gives, refuses_with}
 use Rattle.instruction_set.specs.declared.ArgumentSize.TheVariants.{Bit8, Bit16}
 use Rattle.instruction_set.specs.declared.InstructionArgument.{InstructionArgument}
 use Rattle.instruction_set.specs.declared.InstructionArgument.TheVariants as arg
 use Rattle.instruction_set.specs.declared.Register.TheVariants.{RSP, CR3}
-use Rattle.instruction_set.specs.declared.SomeRegister.TheVariants as reg
-use Rattle.instruction_set.specs.declared.SomeScale.TheVariants as by
 use Rattle.store.specs.Store.{page_size, Store, store_of, is_store, slots_lacking, with_slots}
 use Rattle.walk.specs.Walk.{physical}
 use Rattle.machine_state.specs.Answers.{Value, word}
@@ -77,10 +75,10 @@ two_bytes = 1 ∷ 2 ∷ []
 
 -- an operand at 4095, and one where rsp points; a machine whose push of two bytes goes to 4095, and one that walks
 abbrev pub at4095 : InstructionArgument
-at4095 = arg.EffectiveAddress reg.Absent reg.Absent by.Absent (pos 4095)
+at4095 = arg.EffectiveAddress None None None (pos 4095)
 
 abbrev pub at_stack : InstructionArgument
-at_stack = arg.EffectiveAddress (reg.Present RSP) reg.Absent by.Absent (pos 0)
+at_stack = arg.EffectiveAddress (Some RSP) None None (pos 0)
 
 abbrev pub stack_at_4097 : MachineState
 stack_at_4097 = write_reg new_machine RSP 4097

@@ -9,7 +9,7 @@ use Rattle.fields.specs.FlagBits.{bool_bit}
 use Rattle.arithmetic.specs.declared.Operation.{Operation}
 use Rattle.arithmetic.specs.declared.Operation.TheVariants.{Add, AddWithCarry, Subtract, SubtractWithBorrow, Compare}
 use Rattle.store.specs.Store.{store_of}
-use Rattle.machine_state.specs.Answers.{Result}
+use Rattle.machine_state.specs.Answers.{CallResult}
 use Rattle.machine_state.specs.Flagged.{flag_in, set_flag}
 use Rattle.machine_state.specs.Machine.{new_machine, with_flags}
 use Rattle.machine_state.specs.declared.MachineState.{MachineState}
@@ -18,13 +18,13 @@ use Rattle.calls.specs.declared.Call.TheVariants.{Arithmetic}
 use Rattle.promises.specs.Table.{Line, line, minus, number_and_values}
 
 -- what an operation on a machine leaves
-abbrev pub operation_leaves : MachineState → Operation → ArgumentSize → ℕ → ℕ → Result
+abbrev pub operation_leaves : MachineState → Operation → ArgumentSize → ℕ → ℕ → CallResult
 operation_leaves m o z a b = step (Arithmetic o z a b) m (store_of [] [] 0) []
 
 abbrev pub six_flags : MachineState → List ℕ
 six_flags m = map (λ f. bool_bit (flag_in m f)) (Carry ∷ Parity ∷ Zero ∷ Sign ∷ Direction ∷ Overflow ∷ [])
 
-abbrev pub outcome_and_flags : Result → List ℕ
+abbrev pub outcome_and_flags : CallResult → List ℕ
 outcome_and_flags r = number_and_values r.outcome ++ six_flags r.machine
 
 -- Carry clear, Carry set, and every bit of rflags set
@@ -48,7 +48,8 @@ sum_table =
     ∷ line (outcome_and_flags (operation_leaves carry_set AddWithCarry Bit8 0x7f 0)) (0 ∷ minus 128 ∷ 0 ∷ 0 ∷ 0 ∷ 1 ∷ 0 ∷ 1 ∷ [])
     ∷ line (outcome_and_flags (operation_leaves carry_set AddWithCarry Bit8 0xff 0xff)) (0 ∷ minus 1 ∷ 1 ∷ 1 ∷ 0 ∷ 1 ∷ 0 ∷ 0 ∷ [])
     ∷ line (outcome_and_flags (operation_leaves carry_set AddWithCarry Bit8 0x80 0xff)) (0 ∷ minus 128 ∷ 1 ∷ 0 ∷ 0 ∷ 1 ∷ 0 ∷ 0 ∷ [])
-    ∷ line (outcome_and_flags (operation_leaves carry_set AddWithCarry Bit64 (minus 1) (minus 1))) (0 ∷ minus 1 ∷ 1 ∷ 1 ∷ 0 ∷ 1 ∷ 0 ∷ 0 ∷ [])
+    ∷ line (outcome_and_flags (operation_leaves carry_set AddWithCarry Bit64 (minus 1) (minus 1)))
+    (0 ∷ minus 1 ∷ 1 ∷ 1 ∷ 0 ∷ 1 ∷ 0 ∷ 0 ∷ [])
     -- Carry that is set does not come in where none is asked for
     ∷ line (outcome_and_flags (operation_leaves carry_set Subtract Bit8 0x80 1)) (0 ∷ 0x7f ∷ 0 ∷ 0 ∷ 0 ∷ 0 ∷ 0 ∷ 1 ∷ [])
     ∷ line (outcome_and_flags (operation_leaves carry_set Subtract Bit8 0 0x80)) (0 ∷ minus 128 ∷ 1 ∷ 0 ∷ 0 ∷ 1 ∷ 0 ∷ 1 ∷ [])

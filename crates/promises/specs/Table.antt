@@ -1,5 +1,5 @@
 -- The examples of RULES 10.1 to 10.12, one or two lines each: on the left what the definitions give, on the right what the example says.
-use Rattle.std.specs.Prelude.{List, [], ◌∷◌, Bool, true, false, ℕ, zero, suc, ◌-◌, ◌^◌, negsuc, replicate, set}
+use Rattle.std.specs.Prelude.{List, [], ◌∷◌, Bool, true, false, ℕ, zero, suc, ◌-◌, ◌^◌, negsuc, replicate, set, Some}
 use Rattle.utils.specs.Outcome.{Outcome}
 use Rattle.instruction_set.specs.declared.ArgumentSize.TheVariants.{Bit8, Bit16, Bit64}
 use Rattle.instruction_set.specs.declared.Flags.TheVariants.{Parity, Zero, Sign}
@@ -7,13 +7,11 @@ use Rattle.instruction_set.specs.declared.InstructionArgument.{InstructionArgume
 use Rattle.instruction_set.specs.declared.InstructionArgument.TheVariants as arg
 use Rattle.instruction_set.specs.declared.Register.{Register}
 use Rattle.instruction_set.specs.declared.Register.TheVariants.{RAX, RBX, RSP, EAX, AX, AL, AH, SPL}
-use Rattle.instruction_set.specs.declared.SomeRegister.TheVariants as reg
-use Rattle.instruction_set.specs.declared.SomeScale.TheVariants as by
 use Rattle.fields.specs.FlagBits.{bool_bit}
 use Rattle.store.specs.Store.{page_size, Store, store_of, byte_at}
 use Rattle.walk.specs.Walk.{physical}
 use Rattle.machine_state.specs.Address.{address_of}
-use Rattle.machine_state.specs.Answers.{Value, word, truth, Result}
+use Rattle.machine_state.specs.Answers.{Value, word, truth, CallResult}
 use Rattle.machine_state.specs.Flagged.{flag_in, set_flag, compute_flags}
 use Rattle.machine_state.specs.Machine.{new_machine, read_reg, write_reg}
 use Rattle.machine_state.specs.Memory.{word_outcome, loaded, pushed, write_memory}
@@ -54,7 +52,7 @@ number_and_values o = o.number ∷ values_of o.values
 
 -- [base + index * 8 - 8], with base rax and index rbx
 abbrev pub operand : InstructionArgument
-operand = arg.EffectiveAddress (reg.Present RAX) (reg.Present RBX) (by.Present 8) (negsuc 7)
+operand = arg.EffectiveAddress (Some RAX) (Some RBX) (Some 8) (negsuc 7)
 
 -- page 0 with bytes 80 80 at its start; an empty store with two slots, whose stale bytes are 9; one with one slot; page 0 and one slot more
 unfoldable pub eighty : Store
@@ -79,11 +77,11 @@ page_tables =
 abbrev pub eight : List ℕ
 eight = 1 ∷ 2 ∷ 3 ∷ 4 ∷ 5 ∷ 6 ∷ 7 ∷ 8 ∷ []
 
-abbrev pub after_push : Result
+abbrev pub after_push : CallResult
 after_push = pushed new_machine two_slots eight
 
 -- two bytes at 2^64 - 1
-abbrev pub after_top : Result
+abbrev pub after_top : CallResult
 after_top = write_memory new_machine two_slots (minus 1) (1 ∷ 2 ∷ [])
 
 -- the exposed places of a list of calls, of the 182

@@ -1,5 +1,6 @@
 -- The position of a text in any list, and what stands there; and tests that the checker computes at every number below a bound. Assumes
 -- nothing.
+use Rattle.std.proofs.lemmas.Bool.{cases_lt}
 use mathlib.Core.Bool.{Bool, true, false, cond, ◌&&◌}
 use mathlib.Core.List.{List, [], ◌∷◌}
 use mathlib.Core.Logic.{⊎_elim}
@@ -9,10 +10,9 @@ use native.Mathlib.Omega.{arith}
 use lib.Dec.{T, eqb, eqb→eq}
 use lib.ListN.{length, get_or}
 use mir.Facts.{and_yes}
-use Rattle.text_pieces.proofs.HexLaws.{lt_or_le}
 use Rattle.reading_names.specs.Nodes.{same, index_in}
 
--- ---- a test at every number below a bound
+-- ---- a test at every number below a bound (std's `agree_below` compares two tests: with a second that is always true each use is longer)
 abbrev pub every_below : ℕ → (ℕ → Bool) → Bool
 every_below zero f = true
 every_below (suc n) f = f n && every_below n f
@@ -23,7 +23,7 @@ at_each (suc n) f t k h =
     ⊎_elim
     (λ (l : k < n). at_each n f (and_yes (f n) (every_below n f) t).1 k l)
     (λ (g : n ≤ k). let e : k ≡ n = omega arith in rw e (and_yes (f n) (every_below n f) t).0)
-    (lt_or_le k n)
+    (cases_lt k n)
 
 -- ---- two texts are one
 pub same_eq : (s t : List ℕ) → T (same s t) → s ≡ t
@@ -35,15 +35,6 @@ same_eq (x ∷ s) (y ∷ t) h =
     ap₂ (λ (z : ℕ) (u : List ℕ). z ∷ u) (eqb→eq x y k.0) (same_eq s t k.1)
 
 -- ---- the first position of a text in a list
-pub place_most : (s : List ℕ) (ts : List (List ℕ)) → index_in s ts ≤ length ts
-unfolding index_in
-place_most s [] = omega arith
-place_most s (t ∷ ts) = go (same s t) (place_most s ts)
-  where
-    go : (q : Bool) → index_in s ts ≤ length ts → cond q 0 (suc (index_in s ts)) ≤ suc (length ts)
-    go true h = omega arith
-    go false h = omega arith
-
 pub place_holds : (s : List ℕ) (ts : List (List ℕ)) → index_in s ts < length ts → get_or ts (index_in s ts) [] ≡ s
 unfolding index_in
 place_holds s [] h = absurd (omega arith)
@@ -53,9 +44,3 @@ place_holds s (t ∷ ts) h = go (same s t) refl (place_holds s ts) h
         cond q 0 (suc (index_in s ts)) < suc (length ts) → get_or (t ∷ ts) (cond q 0 (suc (index_in s ts))) [] ≡ s
     go true e k l = sym (same_eq s t (subst T (sym e) tt))
     go false e k l = k (omega arith)
-
--- inside a list it is no matter what would stand past its end
-pub no-matter {ℓ} : {A : Type ℓ} (l : List A) (n : ℕ) (d e : A) → n < length l → get_or l n d ≡ get_or l n e
-no-matter [] n d e h = absurd (omega arith)
-no-matter (x ∷ l) zero d e h = refl
-no-matter (x ∷ l) (suc n) d e h = no-matter l n d e (omega arith)

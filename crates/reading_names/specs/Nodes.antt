@@ -1,7 +1,7 @@
 -- The beginnings of the registers' names (RULES 6.3), which a reader of names goes through letter by letter: 102, by length and then by
 -- the alphabet. That these are all of them, and nothing else, is proved (`beginning`, `begins_name`: proofs/Spelling.antt).
-use Rattle.std.specs.Prelude.{Bool, true, false, cond, ◌&&◌, List, [], ◌∷◌, ◌++◌, map, ℕ, suc, eqb, ltb, get_or}
-use Rattle.instruction_set.specs.declared.SomeRegister.{SomeRegister}
+use Rattle.instruction_set.specs.declared.Register.{Register}
+use Rattle.std.specs.Prelude.{Option, None, Bool, true, false, cond, ◌&&◌, List, [], ◌∷◌, ◌++◌, map, ℕ, suc, eqb, ltb, get_or, position}
 use Rattle.wire_numbers.specs.Numbers.{registers, register_at}
 use Rattle.text_pieces.specs.Ascii.{ascii}
 use Rattle.text_names.specs.Names.{name_of}
@@ -39,20 +39,14 @@ unfoldable pub index_in : List ℕ → List (List ℕ) → ℕ
 index_in s [] = 0
 index_in s (t ∷ ts) = cond (same s t) 0 (suc (index_in s ts))
 
--- the node with one letter more, or 102 where no name begins so
-unfoldable pub next_node : ℕ → ℕ → ℕ
-next_node n b = cond (ltb n 102) (index_in (spelt n ++ (b ∷ [])) beginnings) 102
+-- the node with one letter more, if some name begins so
+unfoldable pub next_node : ℕ → ℕ → Option ℕ
+next_node n b = cond (ltb n 102) (position (same (spelt n ++ (b ∷ []))) beginnings) None
 
 -- the names in the registers' order
 abbrev pub register_names : List (List ℕ)
 register_names = map name_of registers
 
 -- the register whose name the letters of a node are, if there is one
-unfoldable pub register_of : ℕ → SomeRegister
+unfoldable pub register_of : ℕ → Option Register
 register_of n = register_at (index_in (spelt n) register_names)
-
--- ---- what only a private function's contract cites
--- of the nodes from n on, whose last letters are these, the one with letter b; 102 where none has it
-abbrev pub child_by : ℕ → List ℕ → ℕ → ℕ
-child_by n [] b = 102
-child_by n (x ∷ s) b = cond (eqb b x) n (child_by (suc n) s b)

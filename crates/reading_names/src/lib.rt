@@ -1,128 +1,191 @@
 // Registers' names read letter by letter, by a trie: from each beginning of a name, `next_node` goes on by one letter, and `register_of`
-// says whether it is a whole name. Below are instruction_set and `wire_numbers`, which gives a register by its number, and text_names,
-// whose names these are; above is reading_operands.
+// says which register has it as its whole name. Below are instruction_set, text_names, whose names these are, and `wire_numbers`, in whose
+// order the definitions list them; above is reading_operands.
 // It carries the names of RULES 6.10 to 6.12, as 6.3 prints them.
 #![tactic(auto)]
 
-ghost use Rattle.std.specs.Prelude.{[], ◌∷◌, ◌≡◌, ◌+◌, ◌≤◌, ◌<◌, length};
-ghost use Rattle.reading_names.specs.Nodes.{spelt, index_in, next_node, register_names, register_of, child_by};
+ghost use Rattle.std.specs.Prelude.{◌≡◌, ◌==◌, ℕ, ◌+◌, ◌≤◌, length, position};
+ghost use Rattle.std.specs.List.{position_from};
+ghost use Rattle.reading_names.specs.Nodes.{next_node, register_of};
 
-use instruction_set::SomeRegister;
+use instruction_set::Register::{self, *};
 
-// A node is a beginning of a name. There are 102, by length and then by the alphabet: 0 is the empty one, 1 to 9 have one letter, 10 to
-// 45 two, 46 to 83 three, 84 to 101 four.
-pub const NODES: u8 = 102;
-
-// The node with one letter more, or `NODES` where no name begins so. Those with one letter more than a node stand side by side.
-pub fn next_node(node: u8, b: u8) -> u8
+// The node with one letter more, if some name begins so. A node is a beginning of a name. There are 102, by length and then by the
+// alphabet: 0 is the empty one, 1 to 9 have one letter, 10 to 45 two, 46 to 83 three, 84 to 101 four.
+#[tactic(auto, using(crate::proofs::Tables::child_place, crate::proofs::Tables::child_nowhere))]
+pub fn next_node(node: u8, b: u8) -> Option<u8>
     ensures { result ≡ next_node node b }
 {
-    match node {
-        0 => child(1, b"abcdefgrs", b),
-        1 => child(10, b"hlx", b),
-        2 => child(13, b"hlpx", b),
-        3 => child(17, b"hlrsx", b),
-        4 => child(22, b"hilsx", b),
-        5 => child(27, b"abcds", b),
-        6 => only(32, b's', b),
-        7 => only(33, b's', b),
-        8 => child(34, b"189abcdis", b),
-        9 => child(43, b"ips", b),
-        _ => third_or_fourth(node, b),
-    }
+    let (first, letters) = onward(node);
+    let i = place(letters, b)?;
+    Some(first + i as u8)
 }
 
-// The same for the nodes from 10 on, whose next letter is the third or the fourth.
-fn third_or_fourth(node: u8, b: u8) -> u8
-    requires { 10 ≤ node }
-    ensures { result ≡ next_node node b }
+// Where the letter stands among these.
+fn place(letters: &[u8], b: u8) -> Option<usize>
+    ensures { result ≡ position (λ x. x == b) letters.now }
+{
+    letters.iter().position(|letter| *letter == b)
+}
+
+// The nodes with one letter more than a node, which stand side by side: the first of them, and their last letters.
+#[tactic(auto, using(crate::proofs::Tables::next_in), unfolding(crate::specs::Nodes::spelt, crate::specs::Nodes::beginnings))]
+fn onward(node: u8) -> (u8, &'static [u8])
+    ensures inside { result.0 + length result.1.now ≤ 102 }
+    ensures next { (b : ℕ) → position_from (λ x. x == b) result.0 result.1.now ≡ next_node node b }
 {
     match node {
-        15 => only(46, b'l', b),
-        19 => child(47, b"02348", b),
-        23 => only(52, b'l', b),
-        27 => only(53, b'x', b),
-        28 => child(54, b"px", b),
-        29 => only(56, b'x', b),
-        30 => child(57, b"ix", b),
-        31 => child(59, b"ip", b),
-        34 => child(61, b"012345", b),
-        35 => part(67, b),
-        36 => part(70, b),
-        37 => only(73, b'x', b),
-        38 => child(74, b"px", b),
-        39 => only(76, b'x', b),
-        40 => child(77, b"ix", b),
-        41 => only(79, b'p', b),
-        42 => child(80, b"ip", b),
-        43 => only(82, b'l', b),
-        44 => only(83, b'l', b),
-        61 => part(84, b),
-        62 => part(87, b),
-        63 => part(90, b),
-        64 => part(93, b),
-        65 => part(96, b),
-        66 => part(99, b),
-        _ => 102,
+        0 => (1, b"abcdefgrs"),
+        1 => (10, b"hlx"),
+        2 => (13, b"hlpx"),
+        3 => (17, b"hlrsx"),
+        4 => (22, b"hilsx"),
+        5 => (27, b"abcds"),
+        6 => (32, b"s"),
+        7 => (33, b"s"),
+        8 => (34, b"189abcdis"),
+        9 => (43, b"ips"),
+        15 => (46, b"l"),
+        19 => (47, b"02348"),
+        23 => (52, b"l"),
+        27 => (53, b"x"),
+        28 => (54, b"px"),
+        29 => (56, b"x"),
+        30 => (57, b"ix"),
+        31 => (59, b"ip"),
+        34 => (61, b"012345"),
+        35 => (67, b"bdw"),
+        36 => (70, b"bdw"),
+        37 => (73, b"x"),
+        38 => (74, b"px"),
+        39 => (76, b"x"),
+        40 => (77, b"ix"),
+        41 => (79, b"p"),
+        42 => (80, b"ip"),
+        43 => (82, b"l"),
+        44 => (83, b"l"),
+        61 => (84, b"bdw"),
+        62 => (87, b"bdw"),
+        63 => (90, b"bdw"),
+        64 => (93, b"bdw"),
+        65 => (96, b"bdw"),
+        66 => (99, b"bdw"),
+        _ => (0, b""),
     }
 }
 
-// The node, if its last letter is b, or 102.
-fn only(node: u8, letter: u8, b: u8) -> u8
-    ensures { result ≡ child_by node (letter ∷ []) b }
-{
-    if letter == b {
-        return node;
-    }
-    102
-}
+// Each node with its letters: the register that they name, if they are a whole name. (Both tables go by the node's number. As one table of
+// rows, each with its letters and its register, the goal `returns` of both readers stays open: a row that is copied out holds a slice of
+// another type than the constant's. A map would take the heap, which is not for a library here.)
+const REGISTERS: [Option<Register>; 102] = [
+    None, // nothing
+    None, // a
+    None, // b
+    None, // c
+    None, // d
+    None, // e
+    None, // f
+    None, // g
+    None, // r
+    None, // s
+    Some(AH), // ah
+    Some(AL), // al
+    Some(AX), // ax
+    Some(BH), // bh
+    Some(BL), // bl
+    Some(BP), // bp
+    Some(BX), // bx
+    Some(CH), // ch
+    Some(CL), // cl
+    None, // cr
+    Some(CS), // cs
+    Some(CX), // cx
+    Some(DH), // dh
+    Some(DI), // di
+    Some(DL), // dl
+    Some(DS), // ds
+    Some(DX), // dx
+    None, // ea
+    None, // eb
+    None, // ec
+    None, // ed
+    Some(ES), // es
+    Some(FS), // fs
+    Some(GS), // gs
+    None, // r1
+    Some(R8), // r8
+    Some(R9), // r9
+    None, // ra
+    None, // rb
+    None, // rc
+    None, // rd
+    None, // ri
+    None, // rs
+    Some(SI), // si
+    Some(SP), // sp
+    Some(SS), // ss
+    Some(BPL), // bpl
+    Some(CR0), // cr0
+    Some(CR2), // cr2
+    Some(CR3), // cr3
+    Some(CR4), // cr4
+    Some(CR8), // cr8
+    Some(DIL), // dil
+    Some(EAX), // eax
+    Some(EBP), // ebp
+    Some(EBX), // ebx
+    Some(ECX), // ecx
+    Some(EDI), // edi
+    Some(EDX), // edx
+    Some(ESI), // esi
+    Some(ESP), // esp
+    Some(R10), // r10
+    Some(R11), // r11
+    Some(R12), // r12
+    Some(R13), // r13
+    Some(R14), // r14
+    Some(R15), // r15
+    Some(R8B), // r8b
+    Some(R8D), // r8d
+    Some(R8W), // r8w
+    Some(R9B), // r9b
+    Some(R9D), // r9d
+    Some(R9W), // r9w
+    Some(RAX), // rax
+    Some(RBP), // rbp
+    Some(RBX), // rbx
+    Some(RCX), // rcx
+    Some(RDI), // rdi
+    Some(RDX), // rdx
+    Some(RIP), // rip
+    Some(RSI), // rsi
+    Some(RSP), // rsp
+    Some(SIL), // sil
+    Some(SPL), // spl
+    Some(R10B), // r10b
+    Some(R10D), // r10d
+    Some(R10W), // r10w
+    Some(R11B), // r11b
+    Some(R11D), // r11d
+    Some(R11W), // r11w
+    Some(R12B), // r12b
+    Some(R12D), // r12d
+    Some(R12W), // r12w
+    Some(R13B), // r13b
+    Some(R13D), // r13d
+    Some(R13W), // r13w
+    Some(R14B), // r14b
+    Some(R14D), // r14d
+    Some(R14W), // r14w
+    Some(R15B), // r15b
+    Some(R15D), // r15d
+    Some(R15W), // r15w
+];
 
-// Of the nodes from `first` on that have these last letters, the one that has b, or 102.
-fn child(first: u8, letters: &[u8], b: u8) -> u8
-    requires { first + length letters.now ≤ 102 }
-    ensures { result ≡ child_by first letters.now b }
-{
-    let mut node = first;
-    let mut i = 0;
-    while i < letters.len() {
-        if letters[i] == b {
-            return node;
-        }
-        node += 1;
-        i += 1;
-    }
-    102
-}
-
-// Of the nodes from `first` on, the one that has b, d or w, which end the names of a register's parts.
-fn part(first: u8, b: u8) -> u8
-    requires { first + 3 ≤ 102 }
-    ensures { result ≡ child_by first (98 ∷ 100 ∷ 119 ∷ []) b }
-{
-    child(first, b"bdw", b)
-}
-
-// The number of the register that each node names, or 80.
-const NUMBERS: [u8; 102] = *b"\x50\x50\x50\x50\x50\x50\x50\x50\x50\x50\
-    \x3a\x36\x26\x3d\x39\x2b\x29\x3b\x37\x50\x4b\x27\x3c\x2d\x38\x4d\x28\x50\
-    \x50\x50\x50\x4a\x4e\x4f\x50\x08\x09\x50\x50\x50\x50\x50\x50\x2c\x2a\x4c\
-    \x3f\x11\x12\x13\x14\x15\x41\x16\x1b\x17\x18\x1d\x19\x1c\x1a\x0a\x0b\x0c\x0d\
-    \x0e\x0f\x42\x1e\x2e\x43\x1f\x2f\x00\x05\x01\x02\x07\x03\x10\x06\x04\x40\x3e\
-    \x44\x20\x30\x45\x21\x31\x46\x22\x32\x47\x23\x33\x48\x24\x34\x49\x25\x35";
-
-fn number(node: u8) -> u8
-    requires { node < 102 }
-    ensures { result ≡ index_in (spelt node) register_names }
-{
-    NUMBERS[node as usize]
-}
-
-// The register whose name a node is, if it is one; absent of every number past the nodes.
-pub fn register_of(node: u8) -> SomeRegister
+// The register whose name a node is, if it is one; none of every number past the nodes.
+#[tactic(auto, using(crate::proofs::Tables::node_register, crate::proofs::Spelling::none_outside))]
+pub fn register_of(node: u8) -> Option<Register>
     ensures { result ≡ register_of node }
 {
-    if 102 <= node {
-        return SomeRegister::Absent;
-    }
-    wire_numbers::register_at(number(node) as u64)
+    *REGISTERS.get(node as usize)?
 }

@@ -1,4 +1,6 @@
 -- A digit's byte and its value belong to each other; and what the tests of a first and of a further digit say. Assumes nothing.
+use Rattle.std.proofs.lemmas.Bool.{cases_lt}
+use Rattle.std.specs.Prelude.{Option, Some, None}
 use mathlib.Core.Bool.{Bool, true, false, cond}
 use mathlib.Core.Logic.{⊎_elim}
 use mathlib.Core.Path.{◌≡◌, refl, ◌∙◌}
@@ -7,12 +9,10 @@ use native.Mathlib.Nat.{le-mul_of_pos_right}
 use native.Mathlib.Omega.{arith}
 use borrow.Author.Tests.{lt-ltb, le-ltb, le-leb, lt-leb, ltb-true, leb-true}
 use lib.Dec.{ltb, leb}
-use Rattle.text_pieces.proofs.HexLaws.{lt_or_le}
+use Rattle.std.proofs.lemmas.Option.{none-some, same_Some}
 use Rattle.text_pieces.specs.Hex.{hex_byte}
 use Rattle.reading_numbers.specs.Numerals.{radix_of, least_of, most_of, digit_value, first_digit, next_digit}
 use Rattle.reading_numbers.specs.declared.Numeral.{Numeral}
-use Rattle.reading_numbers.specs.declared.SomeNumber.{SomeNumber}
-use Rattle.reading_numbers.specs.declared.SomeNumber.TheVariants.{Absent, Present}
 use Rattle.reading_numbers.proofs.Growth.{radix}
 
 -- ---- by where the byte lies
@@ -70,17 +70,17 @@ byte_of_value b v =
     let e = value_letter b g k in
     byte_letter (digit_value b) (omega arith) ∙ omega arith)
     (λ (g : 103 ≤ b). let k : 102 < b = omega arith in absurd (omega (arith, value_high b k)))
-    (lt_or_le b 103))
-    (lt_or_le b 97))
-    (lt_or_le b 58))
-    (lt_or_le b 48)
+    (cases_lt b 103))
+    (cases_lt b 97))
+    (cases_lt b 58))
+    (cases_lt b 48)
 
 pub value_of_byte : (d : ℕ) → d < 16 → digit_value (hex_byte d) ≡ d
 value_of_byte d h =
     ⊎_elim
     (λ (l : d < 10). rw (byte_decimal d l) (value_decimal (48 + d) (omega arith) (omega arith) ∙ omega arith))
     (λ (g : 10 ≤ d). rw (byte_letter d g) (value_letter (87 + d) (omega arith) (omega arith) ∙ omega arith))
-    (lt_or_le d 10)
+    (cases_lt d 10)
 
 -- ---- what the tests say
 -- a number lies within its bounds
@@ -88,37 +88,31 @@ pub record Within (n : Numeral) (v : ℕ) : Type 0 where
   pub least : least_of n ≤ v
   pub most : v ≤ most_of n
 
-never : {A : Type 0} {v : ℕ} → Absent ≡ Present v → A
-never e = absurd (let z : ◌≡◌ {A = ℕ} 0 1 = cc in omega arith)
-
-present_one : {v w : ℕ} → Present v ≡ Present w → v ≡ w
-present_one e = cc
-
 -- a test that leads to x, and otherwise to nothing
-split : {A : Type 0} {v : ℕ} (t : Bool) (x : SomeNumber) → cond t x Absent ≡ Present v → (t ≡ true → x ≡ Present v → A) → A
+split : {A : Type 0} {v : ℕ} (t : Bool) (x : Option ℕ) → cond t x None ≡ Some v → (t ≡ true → x ≡ Some v → A) → A
 split true x e go = go refl e
-split false x e go = never e
+split {v = v} false x e go = absurd (none-some v e)
 
 pub record First (n : Numeral) (b v : ℕ) : Type 0 where
   pub value : digit_value b ≡ v
   pub digit : v < radix_of n
   pub least : least_of n ≤ v
 
-pub first_said : (n : Numeral) (b v : ℕ) → first_digit n b ≡ Present v → First n b v
+pub first_said : (n : Numeral) (b v : ℕ) → first_digit n b ≡ Some v → First n b v
 unfolding first_digit
 first_said n b v e =
     let d = digit_value b in
-    split (ltb d (radix_of n)) (cond (leb (least_of n) d) (Present d) Absent) e
-    (λ small e. split (leb (least_of n) d) (Present d) e
+    split (ltb d (radix_of n)) (cond (leb (least_of n) d) (Some d) None) e
+    (λ small e. split (leb (least_of n) d) (Some d) e
     (λ least e.
-    let value : d ≡ v = present_one e in
+    let value : d ≡ v = same_Some d v e in
     record {
       value = value;
       digit = rw value at (ltb-true d (radix_of n) small);
       least = rw value at (leb-true (least_of n) d least);
     }))
 
-pub first_is : {n : Numeral} {b v : ℕ} → First n b v → first_digit n b ≡ Present v
+pub first_is : {n : Numeral} {b v : ℕ} → First n b v → first_digit n b ≡ Some v
 unfolding first_digit
 first_is {n} {b} {v} f = rw (f.value, lt-ltb v (radix_of n) f.digit, le-leb (least_of n) v f.least)
 
@@ -128,16 +122,16 @@ pub record Next (n : Numeral) (v b w : ℕ) : Type 0 where
   pub lead : 0 < v
   pub most : w ≤ most_of n
 
-pub next_said : (n : Numeral) (v b w : ℕ) → next_digit n v b ≡ Present w → Next n v b w
+pub next_said : (n : Numeral) (v b w : ℕ) → next_digit n v b ≡ Some w → Next n v b w
 unfolding next_digit
 next_said n v b w e =
     let d = digit_value b in
     let more = v * radix_of n + d in
-    split (ltb d (radix_of n)) (cond (ltb 0 v) (cond (leb more (most_of n)) (Present more) Absent) Absent) e
-    (λ small e. split (ltb 0 v) (cond (leb more (most_of n)) (Present more) Absent) e
-    (λ lead e. split (leb more (most_of n)) (Present more) e
+    split (ltb d (radix_of n)) (cond (ltb 0 v) (cond (leb more (most_of n)) (Some more) None) None) e
+    (λ small e. split (ltb 0 v) (cond (leb more (most_of n)) (Some more) None) e
+    (λ lead e. split (leb more (most_of n)) (Some more) e
     (λ most e.
-    let value : more ≡ w = present_one e in
+    let value : more ≡ w = same_Some more w e in
     record {
       value = value;
       digit = ltb-true d (radix_of n) small;
@@ -145,7 +139,7 @@ next_said n v b w e =
       most = rw value at (leb-true more (most_of n) most);
     })))
 
-pub next_is : {n : Numeral} {v b w : ℕ} → Next n v b w → next_digit n v b ≡ Present w
+pub next_is : {n : Numeral} {v b w : ℕ} → Next n v b w → next_digit n v b ≡ Some w
 unfolding next_digit
 next_is {n} {v} {b} {w} g =
     rw (lt-ltb (digit_value b) (radix_of n) g.digit, lt-ltb 0 v g.lead, g.value, le-leb w (most_of n) g.most)

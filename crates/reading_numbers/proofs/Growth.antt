@@ -1,5 +1,5 @@
--- The bound of a number, tested by parts that cannot wrap: a number goes on with a digit where it is at most what the digit leaves, by the
--- radix. Assumes nothing.
+-- The radix and the bound of a number: either fits 64 bits; and the bound by parts that cannot wrap, where a number goes on with a digit if
+-- it is at most what the digit leaves, by the radix. Assumes nothing.
 use Prim.Native.Nat.{ℕ, ◌+◌, ◌-◌, ◌*◌, ◌/◌, ◌≤◌, ◌<◌}
 use native.Mathlib.Nat.{div-lt_iff_lt-mul, le-div_iff_mul-le}
 use native.Mathlib.Omega.{arith}

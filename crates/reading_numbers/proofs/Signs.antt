@@ -26,7 +26,7 @@ pub scale_means : (v : ℕ) → v ≤ most_of Scale → scale_of v ≡ v
 unfolding scale_of
 scale_means v h = rw (le-leb v (most_of Scale) h)
 
--- ---- as `displacement` computes it, from the distance below 0
+-- ---- by the distance below 0
 minus : ℕ → ℤ
 minus zero = pos 0
 minus (suc n) = negsuc n

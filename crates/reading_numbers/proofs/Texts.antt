@@ -1,5 +1,6 @@
 -- The text of a number grows by one digit at its end. So every number within its bounds is reached from a first digit, digit by digit, and
 -- the digits are its text (`by_digits`): one induction for hex and decimal. Assumes nothing.
+use Rattle.std.proofs.lemmas.Bool.{cases_lt}
 use mathlib.Core.List.{List, [], ◌∷◌, ◌++◌}
 use mathlib.Core.Logic.{⊎_elim}
 use mathlib.Core.Path.{◌≡◌, sym, ap, ap₂, ◌∙◌}
@@ -8,7 +9,7 @@ use native.Mathlib.Nat.{lt_of_lt_of_le, le_trans, lt_irrefl, div-one, mod-lt, di
 use native.Mathlib.Omega.{arith}
 use borrow.Author.Tests.{lt-ltb, le-ltb}
 use lib.Pow.{pow-add, pow_mono, shr-shr}
-use Rattle.text_pieces.proofs.HexLaws.{lt_or_le, digits_bounds, digits_under}
+use Rattle.text_pieces.proofs.HexLaws.{digits_bounds, digits_under}
 use Rattle.text_pieces.specs.Ascii.{digit, decimal_text}
 use Rattle.text_pieces.specs.Hex.{hex_byte, hex_digits, digits_of, hex_text}
 use Rattle.reading_numbers.specs.Numerals.{radix_of, least_of, most_of, digit_value}
@@ -79,7 +80,7 @@ count_more v d p h w = between
         (λ (g : 16 ≤ m).
         let far = pow_mono {i = 64} {j = 4 * m} (omega arith) in
         absurd (lt_irrefl (v * 16 + d) (lt_of_lt_of_le w (le_trans far reaches))))
-        (lt_or_le m 16)
+        (cases_lt m 16)
 
     upper : digits_of (v * 16 + d) ≤ suc m
     upper = digits_under (suc m) (v * 16 + d) (omega arith) most within
@@ -92,7 +93,7 @@ count_more v d p h w = between
         (λ (g : digits_of (v * 16 + d) ≤ m).
         let e : 4 * digits_of (v * 16 + d) ≤ 4 * m = omega arith in
         absurd (lt_irrefl (v * 16 + d) (lt_of_lt_of_le fits (le_trans (pow_mono e) reaches))))
-        (lt_or_le m (digits_of (v * 16 + d)))
+        (cases_lt m (digits_of (v * 16 + d)))
 
     between : digits_of (v * 16 + d) ≡ suc m
     between = omega (arith, upper, lower)
@@ -125,7 +126,7 @@ decimal_more s d p h w =
     let tens : (s * 10 + d) / 10 % 10 ≡ s % 10 = omega arith in
     let ones : (s * 10 + d) % 10 ≡ d = omega arith in
     rw (decimal_three (s * 10 + d) (omega arith), decimal_two s g (omega arith), hundreds, tens, ones))
-    (lt_or_le s 10)
+    (cases_lt s 10)
 
 -- ---- of any number: its first digit, and one digit more
 digit_text : (n : Numeral) (d : ℕ) → d < radix_of n → numeral_text n d ≡ hex_byte d ∷ []
@@ -187,7 +188,7 @@ module _ (n : Numeral) (P : List ℕ → ℕ → Type 0)
       let less : v / radix_of n < v = div-lt_self (omega arith) (radix n).some in
       more (v / radix_of n) v (v % radix_of n) (div-add-mod' v (radix_of n)) lead (mod-lt v some) most
       (turns k (v / radix_of n) (omega arith) (omega (arith, at_most_one n)) (omega arith)))
-      (lt_or_le v (radix_of n))
+      (cases_lt v (radix_of n))
 
   pub by_digits : (v : ℕ) → Within n v → P (numeral_text n v) v
   by_digits v w = turns (suc v) v (omega arith) w.least w.most

@@ -1,10 +1,7 @@
 -- The numbers of operand text (RULES 6.2, 6.4, 6.5), digit by digit: which byte may begin one, which may go on, and what the digits mean
--- (RULES 6.10, 6.11).
-use Rattle.std.specs.Prelude.{cond, ℕ, ◌+◌, ◌-◌, ◌*◌, ltb, leb}
+use Rattle.std.specs.Prelude.{Option, Some, None, cond, ℕ, ◌+◌, ◌-◌, ◌*◌, ltb, leb}
 use Rattle.reading_numbers.specs.declared.Numeral.{Numeral}
 use Rattle.reading_numbers.specs.declared.Numeral.TheVariants.{Immediate, Above, Below, Scale}
-use Rattle.reading_numbers.specs.declared.SomeNumber.{SomeNumber}
-use Rattle.reading_numbers.specs.declared.SomeNumber.TheVariants.{Absent, Present}
 
 abbrev pub radix_of : Numeral → ℕ
 radix_of Immediate = 16
@@ -31,14 +28,14 @@ unfoldable pub digit_value : ℕ → ℕ
 digit_value b = cond (ltb b 48) 16 (cond (leb b 57) (b - 48) (cond (ltb b 97) 16 (cond (leb b 102) (b - 87) 16)))
 
 -- the number of one digit
-unfoldable pub first_digit : Numeral → ℕ → SomeNumber
-first_digit n b = cond (ltb (digit_value b) (radix_of n)) (cond (leb (least_of n) (digit_value b)) (Present (digit_value b)) Absent) Absent
+unfoldable pub first_digit : Numeral → ℕ → Option ℕ
+first_digit n b = cond (ltb (digit_value b) (radix_of n)) (cond (leb (least_of n) (digit_value b)) (Some (digit_value b)) None) None
 
 -- the number with one digit more: nothing goes on from a lone 0, and the number stays within its bound
-unfoldable pub next_digit : Numeral → ℕ → ℕ → SomeNumber
+unfoldable pub next_digit : Numeral → ℕ → ℕ → Option ℕ
 next_digit n v b =
     let more = v * radix_of n + digit_value b in
-    cond (ltb (digit_value b) (radix_of n)) (cond (ltb 0 v) (cond (leb more (most_of n)) (Present more) Absent) Absent) Absent
+    cond (ltb (digit_value b) (radix_of n)) (cond (ltb 0 v) (cond (leb more (most_of n)) (Some more) None) None) None
 
 -- ---- what a number means; one past its bound is never read, and means 0
 -- the 32 bits of v, and of -v

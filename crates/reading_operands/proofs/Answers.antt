@@ -1,5 +1,8 @@
 -- A text has exactly one answer, and it is the reader's. From three facts: the state determines the text (Running), every state can be
 -- completed (GoesOn), and everything printed is run through (Through). Assumes nothing.
+use Rattle.std.specs.Option.{option_and_then}
+use Rattle.std.proofs.lemmas.Bool.{cases_lt}
+use Rattle.std.specs.Prelude.{Option, Some, None, Ok, Err}
 use mathlib.Core.List.{List, [], ◌∷◌, ◌++◌, append_assoc}
 use mathlib.Core.Logic.{⊎_elim}
 use mathlib.Core.Path.{◌≡◌, refl, sym, ap, ◌∙◌}
@@ -10,73 +13,72 @@ use lib.Seq.{take_all, take-suc}
 use Rattle.utils.proofs.Outcomes.{same_values, given_not_refused}
 use Rattle.instruction_set.specs.declared.ArgumentSize.TheVariants.{Bit64}
 use Rattle.instruction_set.specs.declared.InstructionArgument.{InstructionArgument}
-use Rattle.instruction_set.specs.declared.SomeArgument.{SomeArgument}
-use Rattle.instruction_set.specs.declared.SomeArgument.TheVariants as some
-use Rattle.text_pieces.proofs.HexLaws.{lt_or_le}
 use Rattle.text_operands.specs.Operands.{list_text}
-use Rattle.reading_operands.specs.Reads.{Lossless, OfSecond, OperandText, StopsAt, Shows, Reads, operands, offset, operands_outcome}
-use Rattle.reading_operands.specs.Reader.{finished_operand, ReaderState, state, start, Advance, goes, halts, advanced, ended_by, ended, reader_answer}
+use Rattle.reading_operands.specs.Reads.{Lossless, OfSecond, OperandText, StopsAt, Shows, Reading, Reads}
+use Rattle.reading_operands.specs.Reads.{operands, offset, operands_outcome}
+use Rattle.reading_operands.specs.Reader.{finished_operand, ReaderState, state, start, advanced, given, stopped_at}
+use Rattle.reading_operands.specs.Reader.{ended_by, ended, reader_answer}
 use Rattle.reading_operands.specs.declared.Lead.TheVariants as lead
 use Rattle.reading_operands.specs.declared.Phase.{Phase}
 use Rattle.reading_operands.specs.declared.Phase.TheVariants as phase
-use Rattle.reading_operands.specs.declared.Read.{Read}
-use Rattle.reading_operands.specs.declared.Read.TheVariants as read
 use Rattle.reading_operands.proofs.GoesOn.{completes}
 use Rattle.reading_operands.proofs.Printed.{shown_of, printed_of}
-use Rattle.reading_operands.proofs.Running.{apart, ran, bind, ran_append, Runs, ◌then◌, by_byte, run_stands, shows, read_run}
+use Rattle.reading_operands.proofs.Running.{apart, ran, ran_append, Runs, ◌then◌, by_byte, run_stands, shows, read_run}
 use Rattle.reading_operands.proofs.Running.{Stopped, stopped}
 use Rattle.reading_operands.proofs.Texts.{text_of, Sound}
 use Rattle.reading_operands.proofs.Through.{finished_stops, operand_arrives}
 
 -- ---- what is shown is run through, and read
-record ReadThrough (t : List ℕ) (x : InstructionArgument) (y : SomeArgument) : Type 0 where
+record ReadThrough (t : List ℕ) (x : InstructionArgument) (y : Option InstructionArgument) : Type 0 where
   end : ReaderState
   runs : Runs start t end
-  gives : (k : ℕ) → ended k end ≡ read.Operands x y
+  gives : (k : ℕ) → ended k end ≡ given x y
 
-second_begins : (p : Phase) (x : InstructionArgument) → finished_operand p ≡ some.Present x →
-    Runs (state some.Absent p) (44 ∷ []) (state (some.Present x) (phase.Lead lead.Nothing))
+second_begins : (p : Phase) (x : InstructionArgument) → finished_operand p ≡ Some x →
+    Runs (state None p) (44 ∷ []) (state (Some x) (phase.Lead lead.Nothing))
 unfolding advanced
 second_begins p x e = by_byte 44 (rw (finished_stops p e, e))
 
-listed : (x : InstructionArgument) (y : SomeArgument) → Lossless Bit64 x → OfSecond (Lossless Bit64) y →
+listed : (x : InstructionArgument) (y : Option InstructionArgument) → Lossless Bit64 x → OfSecond (Lossless Bit64) y →
     ReadThrough (list_text Bit64 x y) x y
-listed x some.Absent hx hy =
-    let a = operand_arrives some.Absent x hx in
-    record { end = state some.Absent a.end; runs = a.runs; gives = λ k. ap (ended_by k some.Absent) a.done }
-listed x (some.Present y) hx hy =
-    let a = operand_arrives some.Absent x hx in
-    let b = operand_arrives (some.Present x) y hy in
+listed x None hx hy =
+    let a = operand_arrives None x hx in
+    record { end = state None a.end; runs = a.runs; gives = λ k. ap (ended_by k None) a.done }
+listed x (Some y) hx hy =
+    let a = operand_arrives None x hx in
+    let b = operand_arrives (Some x) y hy in
     record {
-      end = state (some.Present x) b.end;
+      end = state (Some x) b.end;
       runs = a.runs then second_begins a.end x a.done then b.runs;
-      gives = λ k. ap (ended_by k (some.Present x)) b.done;
+      gives = λ k. ap (ended_by k (Some x)) b.done;
     }
 
-read_through : (t : List ℕ) (x : InstructionArgument) (y : SomeArgument) → Shows t x y → ReadThrough t x y
+read_through : (t : List ℕ) (x : InstructionArgument) (y : Option InstructionArgument) → Shows t x y → ReadThrough t x y
 read_through t x y s = rw s.text (listed x y s.first s.second)
 
-shown_read : (t : List ℕ) (x : InstructionArgument) (y : SomeArgument) → Shows t x y → reader_answer t ≡ read.Operands x y
+shown_read : (t : List ℕ) (x : InstructionArgument) (y : Option InstructionArgument) → Shows t x y → reader_answer t ≡ given x y
 shown_read t x y s =
     let r = read_through t x y s in
     read_run t 0 start r.runs.run ∙ r.gives (0 + length t)
 
 -- ---- a text that cannot go on is the beginning of no operand text
-dead_end : (s u : List ℕ) → ran s start ≡ halts → OperandText (s ++ u) → ⊥
+dead_end : (s u : List ℕ) → ran s start ≡ None → OperandText (s ++ u) → ⊥
 dead_end s u e p =
     let shown = shown_of (s ++ u) p in
     let t = read_through (s ++ u) shown.first shown.second shown.shows in
-    let lives : ran (s ++ u) start ≡ goes t.end = t.runs.run in
-    let dies : ran (s ++ u) start ≡ halts = ran_append s u start ∙ ap (λ (a : Advance). bind a (ran u)) e in
+    let lives : ran (s ++ u) start ≡ Some t.end = t.runs.run in
+    let dies : ran (s ++ u) start ≡ None = ran_append s u start ∙ ap (option_and_then (ran u)) e in
     apart cc
 
-one_byte_dies : {x : ReaderState} (s : List ℕ) (b : ℕ) → ran s start ≡ goes x → advanced x b ≡ halts →
-    ran (s ++ (b ∷ [])) start ≡ halts
+one_byte_dies : {x : ReaderState} (s : List ℕ) (b : ℕ) → ran s start ≡ Some x → advanced x b ≡ None →
+    ran (s ++ (b ∷ [])) start ≡ None
 unfolding ran
 one_byte_dies s b e h =
-    ran_append s (b ∷ []) start ∙ ap (λ (a : Advance). bind a (ran (b ∷ []))) e ∙ ap (λ (a : Advance). bind a (ran [])) h
+    ran_append s (b ∷ []) start
+    ∙ ap (option_and_then (ran (b ∷ []))) e
+    ∙ ap (option_and_then (ran [])) h
 
-not_printed : (t : List ℕ) (k : ℕ) → reader_answer t ≡ read.NotOperandText k → OperandText t → ⊥
+not_printed : (t : List ℕ) (k : ℕ) → reader_answer t ≡ stopped_at k → OperandText t → ⊥
 not_printed t k h p =
     let shown = shown_of t p in
     let is = shown_read t shown.first shown.second shown.shows in
@@ -87,7 +89,7 @@ start_sound : Sound start
 start_sound = (tt, tt)
 
 module _ (t : List ℕ) (s : Stopped t start) where
-  placed : reader_answer t ≡ read.NotOperandText s.at → StopsAt t s.at
+  placed : reader_answer t ≡ stopped_at s.at → StopsAt t s.at
   placed said =
       let st = run_stands (take s.at t) start start_sound s.run in
       let x = s.here in
@@ -105,10 +107,10 @@ module _ (t : List ℕ) (s : Stopped t start) where
       }
 
   -- the text ends where the reader does
-  finishes : length t ≤ s.at → (done : SomeArgument) → finished_operand s.here.phase ≡ done →
+  finishes : length t ≤ s.at → (done : Option InstructionArgument) → finished_operand s.here.phase ≡ done →
       reader_answer t ≡ ended_by s.at s.here.first done → Reads t (reader_answer t)
-  finishes l some.Absent e said = rw said (placed said)
-  finishes l (some.Present a) e said =
+  finishes l None e said = rw said (placed said)
+  finishes l (Some a) e said =
       let all : take s.at t ≡ t = take_all s.at t l in
       let st = run_stands t start start_sound (rw all at s.run) in
       let x = s.here in
@@ -123,11 +125,15 @@ answered t =
     let from_zero : 0 + s.at ≡ s.at = omega arith in
     ⊎_elim
     (λ (l : s.at < length t).
-    let said = s.refused l 0 ∙ ap read.NotOperandText from_zero in
+    let said = s.refused l 0 ∙ ap stopped_at from_zero in
     rw said (placed t s said))
     (λ (g : length t ≤ s.at).
     finishes t s g (finished_operand s.here.phase) refl (s.ends g 0 ∙ ap (λ (n : ℕ). ended n s.here) from_zero))
-    (lt_or_le s.at (length t))
+    (cases_lt s.at (length t))
+
+-- what the reader says is an answer
+pub so_read : (t : List ℕ) (r : Reading) → r ≡ reader_answer t → Reads t r
+so_read t r e = rw e (answered t)
 
 -- ---- no text has two answers
 -- a longer beginning is a shorter one and more
@@ -146,29 +152,29 @@ not_before t j k p q l =
     ap (λ (s : List ℕ). s ++ u) (take_longer (suc j) k t l) ∙ append_assoc (take (suc j) t) more u in
     p.stops (omega (arith, q.inside)) (more ++ u) (rw longer at q.goes_on.1)
 
-pub one_answer : (t : List ℕ) (r s : Read) → Reads t r → Reads t s → r ≡ s
-one_answer t (read.Operands x y) (read.Operands x' y') a b = sym (shown_read t x y a) ∙ shown_read t x' y' b
-one_answer t (read.Operands x y) (read.NotOperandText k) a b = absurd (b.refused (printed_of t x y a))
-one_answer t (read.NotOperandText k) (read.Operands x y) a b = absurd (a.refused (printed_of t x y b))
-one_answer t (read.NotOperandText j) (read.NotOperandText k) a b =
-    ap read.NotOperandText
+pub one_answer : (t : List ℕ) (r s : Reading) → Reads t r → Reads t s → r ≡ s
+one_answer t (Ok r) (Ok s) a b = sym (shown_read t r.0 r.1 a) ∙ shown_read t s.0 s.1 b
+one_answer t (Ok r) (Err e) a b = absurd (b.refused (printed_of t r.0 r.1 a))
+one_answer t (Err e) (Ok s) a b = absurd (a.refused (printed_of t s.0 s.1 b))
+one_answer t (Err d) (Err e) a b =
+    let j = d.offset in
+    let k = e.offset in
+    ap stopped_at
     (⊎_elim
     (λ (l : j < k). absurd (not_before t j k a b l))
-    (λ (g : k ≤ j). ⊎_elim (λ (l : k < j). absurd (not_before t k j b a l)) (λ (h : j ≤ k). omega arith) (lt_or_le k j))
-    (lt_or_le j k))
+    (λ (g : k ≤ j). ⊎_elim (λ (l : k < j). absurd (not_before t k j b a l)) (λ (h : j ≤ k). omega arith) (cases_lt k j))
+    (cases_lt j k))
 
 -- ---- nothing is lost in the number and what is said with it
-operands_said : {x x' : InstructionArgument} {y y' : SomeArgument} → operands x y ∷ [] ≡ operands x' y' ∷ [] →
-    read.Operands x y ≡ read.Operands x' y'
+operands_said : {x x' : InstructionArgument} {y y' : Option InstructionArgument} → operands x y ∷ [] ≡ operands x' y' ∷ [] →
+    given x y ≡ given x' y'
 operands_said e = cc
 
-place_said : {j k : ℕ} → offset j ∷ [] ≡ offset k ∷ [] → read.NotOperandText j ≡ read.NotOperandText k
+place_said : {j k : ℕ} → offset j ∷ [] ≡ offset k ∷ [] → stopped_at j ≡ stopped_at k
 place_said e = cc
 
-pub outcome_one : (r s : Read) → operands_outcome r ≡ operands_outcome s → r ≡ s
-outcome_one (read.Operands x y) (read.Operands x' y') e = operands_said (same_values e)
-outcome_one (read.Operands x y) (read.NotOperandText k) e =
-    absurd (given_not_refused (operands x y ∷ []) (offset k ∷ []) 13 (omega arith) e)
-outcome_one (read.NotOperandText k) (read.Operands x y) e =
-    absurd (given_not_refused (operands x y ∷ []) (offset k ∷ []) 13 (omega arith) (sym e))
-outcome_one (read.NotOperandText j) (read.NotOperandText k) e = place_said (same_values e)
+pub outcome_one : (r s : Reading) → operands_outcome r ≡ operands_outcome s → r ≡ s
+outcome_one (Ok r) (Ok s) h = operands_said (same_values h)
+outcome_one (Ok r) (Err e) h = absurd (given_not_refused (operands r.0 r.1 ∷ []) (offset e.offset ∷ []) 13 (omega arith) h)
+outcome_one (Err e) (Ok s) h = absurd (given_not_refused (operands s.0 s.1 ∷ []) (offset e.offset ∷ []) 13 (omega arith) (sym h))
+outcome_one (Err d) (Err e) h = place_said (same_values h)

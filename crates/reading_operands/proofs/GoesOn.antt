@@ -1,5 +1,6 @@
 -- Every state that is reached can be completed to operand text: by `)`, by the digit 1, by the letters that complete a name.
 -- Assumes nothing.
+use Rattle.std.specs.Prelude.{Option, Some}
 use mathlib.Core.List.{List, [], ◌++◌}
 use mathlib.Core.Path.{◌≡◌, refl, ap}
 use Prim.Native.Nat.{ℕ, ◌<◌}
@@ -7,11 +8,8 @@ use native.Mathlib.Omega.{arith}
 use Rattle.instruction_set.specs.declared.InstructionArgument.{InstructionArgument}
 use Rattle.instruction_set.specs.declared.InstructionArgument.TheVariants as arg
 use Rattle.instruction_set.specs.declared.Register.{Register}
-use Rattle.instruction_set.specs.declared.SomeArgument.{SomeArgument}
-use Rattle.instruction_set.specs.declared.SomeArgument.TheVariants as some
-use Rattle.instruction_set.specs.declared.SomeRegister.TheVariants as reg
 use Rattle.reading_numbers.proofs.Digits.{Within}
-use Rattle.reading_names.proofs.Spelling.{walked, rest_of, rest_alive, rest_named}
+use Rattle.reading_names.proofs.Spelling.{rest_of, rest_named}
 use Rattle.reading_names.specs.Nodes.{register_of}
 use Rattle.reading_operands.specs.Reader.{finished_operand, state, named_register}
 use Rattle.reading_operands.specs.Steps.{numeral_of, plain_address, indexed_address}
@@ -29,21 +27,21 @@ use Rattle.reading_operands.proofs.Through.{by_step, number_runs, letters_run, b
 use Rattle.reading_operands.proofs.Through.{index_begins}
 
 -- some text leads on to a whole operand
-pub record Completes (f : SomeArgument) (p : Phase) : Type 0 where
+pub record Completes (f : Option InstructionArgument) (p : Phase) : Type 0 where
   pub rest : List ℕ
   pub end : Phase
   pub operand : InstructionArgument
   pub runs : Runs (state f p) rest (state f end)
-  pub done : finished_operand end ≡ some.Present operand
+  pub done : finished_operand end ≡ Some operand
 
 -- after more text
-after : {f : SomeArgument} {p q : Phase} {t : List ℕ} → Runs (state f p) t (state f q) → Completes f q → Completes f p
+after : {f : Option InstructionArgument} {p q : Phase} {t : List ℕ} → Runs (state f p) t (state f q) → Completes f q → Completes f p
 after {t = t} r c = record { rest = t ++ c.rest; end = c.end; operand = c.operand; runs = r then c.runs; done = c.done }
 
-already : {f : SomeArgument} (p : Phase) (a : InstructionArgument) → finished_operand p ≡ some.Present a → Completes f p
+already : {f : Option InstructionArgument} (p : Phase) (a : InstructionArgument) → finished_operand p ≡ Some a → Completes f p
 already p a e = record { rest = []; end = p; operand = a; runs = stay; done = e }
 
-module _ (f : SomeArgument) where
+module _ (f : Option InstructionArgument) where
   number_completes : (role : Numbered) (v : ℕ) → Completes f (phase.Digits role v)
   number_completes numbered.Immediate v = already (phase.Digits numbered.Immediate v) _ refl
   number_completes numbered.Above v = already (phase.Digits numbered.Above v) _ refl
@@ -61,15 +59,15 @@ module _ (f : SomeArgument) where
   begun_completes role = after (number_runs f role 1 (one role)) (number_completes role 1)
 
   -- a name, once it is whole
-  whole_completes : (role : Named) (n : ℕ) (r : Register) → register_of n ≡ reg.Present r → Completes f (phase.Name role n)
+  whole_completes : (role : Named) (n : ℕ) (r : Register) → register_of n ≡ Some r → Completes f (phase.Name role n)
   whole_completes named.Operand n r w = already (phase.Name named.Operand n) (arg.Register r) (ap named_register w)
-  whole_completes (named.Base o) n r w = after (base_closes f o n r w) (already (phase.Closed (plain_address o (reg.Present r))) _ refl)
+  whole_completes (named.Base o) n r w = after (base_closes f o n r w) (already (phase.Closed (plain_address o (Some r))) _ refl)
   whole_completes (named.Index o b) n r w = after (index_goes_on f o n r w b) (begun_completes (numbered.Scale o b r))
 
   name_completes : (role : Named) (n : ℕ) → n < 102 → Completes f (phase.Name role n)
   name_completes role n h =
-      let found = rest_named n h in
-      after (letters_run f role (rest_of n) n (rest_alive n h)) (whole_completes role (walked (rest_of n) n) found.0 found.1)
+      let whole = rest_named n h in
+      after (letters_run f role (rest_of n) n whole.node whole.reached) (whole_completes role whole.node whole.register whole.named)
 
   lead_completes : (l : Lead) → Completes f (phase.Lead l)
   lead_completes lead.Nothing = after (by_step 37 refl) (name_completes named.Operand 0 (omega arith))

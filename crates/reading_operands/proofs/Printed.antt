@@ -1,5 +1,6 @@
 -- Sizes and print: at a size that is wide enough an operand has the text that it has at Bit64, and whatever is printed is the text of what
 -- print leaves of it (`plain`), of which nothing is lost at Bit64. So operand text is the text of whole operands. Assumes nothing.
+use Rattle.std.specs.Prelude.{Option, Some, None}
 use mathlib.Core.Bool.{false}
 use mathlib.Core.List.{List, ◌++◌}
 use mathlib.Core.Path.{◌≡◌, refl, sym, ap, ap₂, ◌∙◌}
@@ -14,10 +15,6 @@ use Rattle.instruction_set.specs.declared.ArgumentSize.{ArgumentSize}
 use Rattle.instruction_set.specs.declared.ArgumentSize.TheVariants.{Bit64, Bit32, Bit16, Bit8}
 use Rattle.instruction_set.specs.declared.InstructionArgument.{InstructionArgument}
 use Rattle.instruction_set.specs.declared.InstructionArgument.TheVariants as arg
-use Rattle.instruction_set.specs.declared.SomeArgument.{SomeArgument}
-use Rattle.instruction_set.specs.declared.SomeArgument.TheVariants as some
-use Rattle.instruction_set.specs.declared.SomeRegister.TheVariants as reg
-use Rattle.instruction_set.specs.declared.SomeScale.TheVariants as scale
 use Rattle.text_pieces.specs.Ascii.{ascii}
 use Rattle.text_pieces.specs.Hex.{hex_text}
 use Rattle.text_operands.specs.Operands.{operand_text, list_text}
@@ -40,10 +37,10 @@ same_text size (arg.Immediate v) h =
 same_text size (arg.Register r) h = refl
 same_text size (arg.EffectiveAddress b i s d) h = refl
 
-pub same_list : (size : ArgumentSize) (x : InstructionArgument) (y : SomeArgument) → WithinSize size x → OfSecond (WithinSize size) y →
-    list_text size x y ≡ list_text Bit64 x y
-same_list size x some.Absent hx hy = same_text size x hx
-same_list size x (some.Present y) hx hy = ap₂ (λ (s t : List ℕ). s ++ ascii "," ++ t) (same_text size x hx) (same_text size y hy)
+pub same_list : (size : ArgumentSize) (x : InstructionArgument) (y : Option InstructionArgument) →
+    WithinSize size x → OfSecond (WithinSize size) y → list_text size x y ≡ list_text Bit64 x y
+same_list size x None hx hy = same_text size x hx
+same_list size x (Some y) hx hy = ap₂ (λ (s t : List ℕ). s ++ ascii "," ++ t) (same_text size x hx) (same_text size y hy)
 
 within_wide : (size : ArgumentSize) (x : InstructionArgument) → WithinSize size x → WithinSize Bit64 x
 within_wide size (arg.Immediate v) h = lt_of_lt_of_le h (narrower size)
@@ -55,23 +52,23 @@ whole_wide size x w =
     record { held = w.held; printed = w.printed; within = within_wide size x w.within; scaled = w.scaled }
 
 -- operands of which print loses nothing at some size are shown by their text
-pub shows_lossless : (size : ArgumentSize) (x : InstructionArgument) (y : SomeArgument) → Lossless size x → OfSecond (Lossless size) y →
-    Shows (list_text size x y) x y
-shows_lossless size x some.Absent hx hy =
-    record { first = whole_wide size x hx; second = tt; text = same_list size x some.Absent hx.within tt }
-shows_lossless size x (some.Present y) hx hy =
+pub shows_lossless : (size : ArgumentSize) (x : InstructionArgument) (y : Option InstructionArgument) →
+    Lossless size x → OfSecond (Lossless size) y → Shows (list_text size x y) x y
+shows_lossless size x None hx hy =
+    record { first = whole_wide size x hx; second = tt; text = same_list size x None hx.within tt }
+shows_lossless size x (Some y) hx hy =
     record {
       first = whole_wide size x hx;
       second = whole_wide size y hy;
-      text = same_list size x (some.Present y) hx.within hy.within;
+      text = same_list size x (Some y) hx.within hy.within;
     }
 
 -- ---- what print leaves of an operand
 plain : ArgumentSize → InstructionArgument → InstructionArgument
 plain size (arg.Immediate v) = arg.Immediate (cut v 0 (8 * bytes_of size))
 plain size (arg.Register r) = arg.Register r
-plain size (arg.EffectiveAddress b reg.Absent s d) = arg.EffectiveAddress b reg.Absent scale.Absent d
-plain size (arg.EffectiveAddress b (reg.Present i) s d) = arg.EffectiveAddress b (reg.Present i) s d
+plain size (arg.EffectiveAddress b None s d) = arg.EffectiveAddress b None None d
+plain size (arg.EffectiveAddress b (Some i) s d) = arg.EffectiveAddress b (Some i) s d
 
 record Plain (size : ArgumentSize) (x : InstructionArgument) : Type 0 where
   whole : Lossless Bit64 (plain size x)
@@ -86,18 +83,18 @@ plain_is size (arg.Immediate v) h l =
       text = ap (λ (n : ℕ). ascii "$0x" ++ hex_text n) (sym (cut_all (cut v 0 (8 * bytes_of size)) 64 small));
     }
 plain_is size (arg.Register r) h l = record { whole = lossless_register r; text = refl }
-plain_is size (arg.EffectiveAddress reg.Absent reg.Absent s d) h l =
+plain_is size (arg.EffectiveAddress None None s d) h l =
     record { whole = record { held = (h.0, tt); printed = refl; within = tt; scaled = refl }; text = refl }
-plain_is size (arg.EffectiveAddress (reg.Present b) reg.Absent s d) h l =
+plain_is size (arg.EffectiveAddress (Some b) None s d) h l =
     record { whole = record { held = (h.0, tt); printed = refl; within = tt; scaled = refl }; text = refl }
-plain_is size (arg.EffectiveAddress b (reg.Present i) scale.Absent d) h l = apart cc
-plain_is size (arg.EffectiveAddress b (reg.Present i) (scale.Present s) d) h l =
+plain_is size (arg.EffectiveAddress b (Some i) None d) h l = apart cc
+plain_is size (arg.EffectiveAddress b (Some i) (Some s) d) h l =
     record { whole = record { held = h; printed = refl; within = tt; scaled = refl }; text = refl }
 
 -- operand text shows whole operands, and whole operands show operand text
 pub record ShownBy (t : List ℕ) : Type 0 where
   pub first : InstructionArgument
-  pub second : SomeArgument
+  pub second : Option InstructionArgument
   pub shows : Shows t first second
 
 pub shown_of : (t : List ℕ) → OperandText t → ShownBy t
@@ -106,18 +103,18 @@ shown_of t p = go p.second p.second_held p.second_printed p.text
     x : Plain p.size p.first
     x = plain_is p.size p.first p.first_held p.first_printed
 
-    go : (y : SomeArgument) → OfSecond Held y → some_lacks_scale y ≡ false → t ≡ list_text p.size p.first y → ShownBy t
-    go some.Absent h l e =
+    go : (y : Option InstructionArgument) → OfSecond Held y → some_lacks_scale y ≡ false → t ≡ list_text p.size p.first y → ShownBy t
+    go None h l e =
         record {
           first = plain p.size p.first;
-          second = some.Absent;
+          second = None;
           shows = record { first = x.whole; second = tt; text = e ∙ x.text };
         }
-    go (some.Present y) h l e =
+    go (Some y) h l e =
         let z = plain_is p.size y h l in
         record {
           first = plain p.size p.first;
-          second = some.Present (plain p.size y);
+          second = Some (plain p.size y);
           shows =
               record {
                 first = x.whole;
@@ -126,23 +123,23 @@ shown_of t p = go p.second p.second_held p.second_printed p.text
               };
         }
 
-pub printed_of : (t : List ℕ) (x : InstructionArgument) (y : SomeArgument) → Shows t x y → OperandText t
-printed_of t x some.Absent s =
+pub printed_of : (t : List ℕ) (x : InstructionArgument) (y : Option InstructionArgument) → Shows t x y → OperandText t
+printed_of t x None s =
     record {
       size = Bit64;
       first = x;
-      second = some.Absent;
+      second = None;
       first_held = s.first.held;
       second_held = tt;
       first_printed = s.first.printed;
       second_printed = refl;
       text = s.text;
     }
-printed_of t x (some.Present y) s =
+printed_of t x (Some y) s =
     record {
       size = Bit64;
       first = x;
-      second = some.Present y;
+      second = Some y;
       first_held = s.first.held;
       second_held = s.second.held;
       first_printed = s.first.printed;

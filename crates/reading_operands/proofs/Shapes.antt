@@ -1,4 +1,5 @@
 -- The operands that the reader makes: print loses nothing of them, and a displacement's text is that of the digits read. Assumes nothing.
+use Rattle.std.specs.Prelude.{Option}
 use mathlib.Core.List.{◌++◌}
 use mathlib.Core.Path.{◌≡◌, refl}
 use Prim.Native.Nat.{ℕ, zero, suc, ◌^◌, ◌≤◌, ◌<◌}
@@ -9,7 +10,6 @@ use mir.Val.{SFits, to_z}
 use Rattle.instruction_set.specs.declared.ArgumentSize.TheVariants.{Bit64}
 use Rattle.instruction_set.specs.declared.InstructionArgument.TheVariants as arg
 use Rattle.instruction_set.specs.declared.Register.{Register}
-use Rattle.instruction_set.specs.declared.SomeRegister.{SomeRegister}
 use Rattle.text_pieces.specs.Ascii.{ascii}
 use Rattle.text_pieces.specs.Hex.{hex_text}
 use Rattle.reading_numbers.proofs.Digits.{Within}
@@ -38,10 +38,10 @@ lossless_immediate v h = record { held = h; printed = refl; within = h; scaled =
 pub lossless_register : (r : Register) → Lossless Bit64 (arg.Register r)
 lossless_register r = record { held = tt; printed = refl; within = tt; scaled = refl }
 
-pub lossless_plain : (o : ℕ) → OffsetSound o → (b : SomeRegister) → Lossless Bit64 (plain_address o b)
+pub lossless_plain : (o : ℕ) → OffsetSound o → (b : Option Register) → Lossless Bit64 (plain_address o b)
 lossless_plain o s b = record { held = (offset_fits o s, tt); printed = refl; within = tt; scaled = refl }
 
-pub lossless_indexed : (o : ℕ) → OffsetSound o → (b : SomeRegister) (i : Register) (v : ℕ) → v ≤ most_of numeral.Scale →
+pub lossless_indexed : (o : ℕ) → OffsetSound o → (b : Option Register) (i : Register) (v : ℕ) → v ≤ most_of numeral.Scale →
     Lossless Bit64 (indexed_address o b i v)
 lossless_indexed o s b i v h =
     let byte : scale_of v < 256 = rw (scale_means v h) (omega arith) in

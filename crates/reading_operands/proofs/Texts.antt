@@ -1,12 +1,12 @@
 -- The text that a state of the reader has read, and which states are reached. Assumes nothing.
+use Rattle.std.specs.Prelude.{Option, Some, None}
+use Rattle.instruction_set.specs.declared.InstructionArgument.{InstructionArgument}
+use Rattle.instruction_set.specs.declared.Register.{Register}
 use mathlib.Core.List.{List, [], ◌++◌}
 use Prim.Native.Nat.{ℕ, ◌<◌}
 use mir.Syntax.{w32}
 use mir.Val.{to_z}
 use Rattle.instruction_set.specs.declared.ArgumentSize.TheVariants.{Bit64}
-use Rattle.instruction_set.specs.declared.SomeArgument.{SomeArgument}
-use Rattle.instruction_set.specs.declared.SomeArgument.TheVariants as some
-use Rattle.instruction_set.specs.declared.SomeRegister.{SomeRegister}
 use Rattle.text_pieces.specs.Ascii.{ascii}
 use Rattle.text_names.specs.Names.{register_text}
 use Rattle.text_operands.specs.Operands.{base_text, displacement_text, operand_text}
@@ -39,7 +39,7 @@ abbrev pub offset_text : ℕ → List ℕ
 offset_text o = displacement_text (to_z w32 o)
 
 -- up to an index, and up to a scale
-abbrev pub to_index : SomeRegister → List ℕ
+abbrev pub to_index : Option Register → List ℕ
 to_index b = ascii "(" ++ base_text b ++ ascii ","
 
 abbrev pub before_number : Numbered → List ℕ
@@ -62,9 +62,9 @@ phase_text (phase.Opened o) = offset_text o ++ ascii "("
 phase_text (phase.IndexWanted o b) = offset_text o ++ to_index b
 phase_text (phase.Closed x) = operand_text Bit64 x
 
-abbrev pub first_text : SomeArgument → List ℕ
-first_text some.Absent = []
-first_text (some.Present x) = operand_text Bit64 x ++ ascii ","
+abbrev pub first_text : Option InstructionArgument → List ℕ
+first_text None = []
+first_text (Some x) = operand_text Bit64 x ++ ascii ","
 
 abbrev pub text_of : ReaderState → List ℕ
 text_of x = first_text x.first ++ phase_text x.phase

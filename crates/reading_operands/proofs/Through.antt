@@ -1,27 +1,21 @@
 -- The reader runs through everything that is printed whole: numbers digit by digit, names letter by letter, and what stands between them.
 -- Assumes nothing.
-use mathlib.Core.Bool.{Bool, true, false}
+use Rattle.std.specs.Prelude.{Option, Some, None}
 use mathlib.Core.List.{List, [], ◌∷◌, ◌++◌}
-use mathlib.Core.Path.{◌≡◌, refl, ap, ap₂, ◌∙◌}
+use mathlib.Core.Path.{◌≡◌, refl, ap, ap₂, subst, ◌∙◌}
 use Prim.Native.Nat.{ℕ, suc, ◌≤◌, ◌<◌}
 use native.Mathlib.Omega.{arith}
 use borrow.Author.Tests.{le-ltb}
-use lib.Dec.{T, ltb}
 use lib.IntN.{ℤ, pos, negsuc}
-use mir.Facts.{and_yes}
 use mir.Syntax.{w32}
 use mir.Val.{SFits, to_z}
+use Rattle.std.specs.Option.{option_and_then}
+use Rattle.std.proofs.lemmas.Option.{same_Some}
 use Rattle.utils.proofs.Field.{cut_all}
 use Rattle.instruction_set.specs.declared.ArgumentSize.TheVariants.{Bit64}
 use Rattle.instruction_set.specs.declared.InstructionArgument.{InstructionArgument}
 use Rattle.instruction_set.specs.declared.InstructionArgument.TheVariants as arg
 use Rattle.instruction_set.specs.declared.Register.{Register}
-use Rattle.instruction_set.specs.declared.SomeArgument.{SomeArgument}
-use Rattle.instruction_set.specs.declared.SomeArgument.TheVariants as some
-use Rattle.instruction_set.specs.declared.SomeRegister.{SomeRegister}
-use Rattle.instruction_set.specs.declared.SomeRegister.TheVariants as reg
-use Rattle.instruction_set.specs.declared.SomeScale.{SomeScale}
-use Rattle.instruction_set.specs.declared.SomeScale.TheVariants as scale
 use Rattle.text_pieces.specs.Ascii.{ascii}
 use Rattle.text_names.specs.Names.{name_of}
 use Rattle.text_operands.specs.Operands.{base_text, displacement_text, address_text, operand_text}
@@ -32,13 +26,12 @@ use Rattle.reading_numbers.proofs.Texts.{numeral_text, by_digits}
 use Rattle.reading_numbers.specs.Numerals.{radix_of, digit_value, next_digit, positive_bits, negative_bits}
 use Rattle.reading_numbers.specs.declared.Numeral.{Numeral}
 use Rattle.reading_numbers.specs.declared.Numeral.TheVariants as numeral
-use Rattle.reading_numbers.specs.declared.SomeNumber.TheVariants as number
-use Rattle.reading_names.proofs.Spelling.{no_comma, no_close, node_of, register_at_node, walked, alive, name_alive, name_walked}
+use Rattle.reading_names.proofs.Spelling.{no_comma, no_close, node_of, register_at_node, walked, name_walked}
 use Rattle.reading_names.specs.Nodes.{next_node, register_of}
 use Rattle.reading_operands.specs.Reads.{Lossless}
 use Rattle.reading_operands.specs.Reader.{finished_operand, named_register, state, step_taken, advanced}
 use Rattle.reading_operands.specs.Steps.{plain_address, indexed_address, numeral_of, begun_number, grown_number}
-use Rattle.reading_operands.specs.Steps.{after_node, stepped}
+use Rattle.reading_operands.specs.Steps.{grown_name, after_node, stepped}
 use Rattle.reading_operands.specs.declared.Lead.TheVariants as lead
 use Rattle.reading_operands.specs.declared.Named.{Named}
 use Rattle.reading_operands.specs.declared.Named.TheVariants as named
@@ -46,15 +39,14 @@ use Rattle.reading_operands.specs.declared.Numbered.{Numbered}
 use Rattle.reading_operands.specs.declared.Numbered.TheVariants as numbered
 use Rattle.reading_operands.specs.declared.Phase.{Phase}
 use Rattle.reading_operands.specs.declared.Phase.TheVariants as phase
-use Rattle.reading_operands.specs.declared.Step.TheVariants as step
 use Rattle.reading_operands.proofs.Running.{apart, absent, Runs, ◌then◌, stay, by_byte}
 
-pub by_step : {f : SomeArgument} {p q : Phase} (b : ℕ) → stepped p b ≡ step.To q → Runs (state f p) (b ∷ []) (state f q)
+pub by_step : {f : Option InstructionArgument} {p q : Phase} (b : ℕ) → stepped p b ≡ Some q → Runs (state f p) (b ∷ []) (state f q)
 unfolding advanced
 by_step {f} {p} b h = by_byte b (ap (step_taken (state f p) b) h)
 
 -- ---- numbers
-pub number_runs : (f : SomeArgument) (role : Numbered) (v : ℕ) → Within (numeral_of role) v →
+pub number_runs : (f : Option InstructionArgument) (role : Numbered) (v : ℕ) → Within (numeral_of role) v →
     Runs (state f (phase.FirstDigit role)) (numeral_text (numeral_of role) v) (state f (phase.Digits role v))
 number_runs f role v w =
     by_digits (numeral_of role) (λ (t : List ℕ) (n : ℕ). Runs (state f (phase.FirstDigit role)) t (state f (phase.Digits role n)))
@@ -63,56 +55,53 @@ number_runs f role v w =
     v w
 
 -- ---- names
-is_true : (t : Bool) → T t → t ≡ true
-is_true true h = refl
-is_true false h = absurd h
+pub letters_run : (f : Option InstructionArgument) (role : Named) (t : List ℕ) (n m : ℕ) → walked t n ≡ Some m →
+    Runs (state f (phase.Name role n)) t (state f (phase.Name role m))
+letters_run f role [] n m e = subst (λ (k : ℕ). Runs (state f (phase.Name role n)) [] (state f (phase.Name role k))) (same_Some n m e) stay
+letters_run f role (b ∷ t) n m e = go (next_node n b) refl (λ (k : ℕ). letters_run f role t k m) e
+  where
+    go : (x : Option ℕ) → next_node n b ≡ x →
+        ((k : ℕ) → walked t k ≡ Some m → Runs (state f (phase.Name role k)) t (state f (phase.Name role m))) →
+        option_and_then (walked t) x ≡ Some m → Runs (state f (phase.Name role n)) (b ∷ t) (state f (phase.Name role m))
+    go None d rec g = absent g
+    go (Some k) d rec g = by_step b (ap (grown_name role n b) d) then rec k g
 
-pub letters_run : (f : SomeArgument) (role : Named) (t : List ℕ) (n : ℕ) → T (alive t n) →
-    Runs (state f (phase.Name role n)) t (state f (phase.Name role (walked t n)))
-letters_run f role [] n h = stay
-letters_run f role (b ∷ t) n h =
-    let inside = ltb (next_node n b) 102 in
-    let parts = and_yes inside (alive t (next_node n b)) h in
-    let inside-so = is_true inside parts.0 in
-    by_step b (rw inside-so)
-    then letters_run f role t (next_node n b) parts.1
-
-name_runs : (f : SomeArgument) (role : Named) (r : Register) →
+name_runs : (f : Option InstructionArgument) (role : Named) (r : Register) →
     Runs (state f (phase.Name role 0)) (name_of r) (state f (phase.Name role (node_of r)))
-name_runs f role r = rw (name_walked r) at (letters_run f role (name_of r) 0 (name_alive r))
+name_runs f role r = letters_run f role (name_of r) 0 (node_of r) (name_walked r)
 
 -- at a node at which a name is read to its end
-module _ (f : SomeArgument) (o : ℕ) (n : ℕ) (r : Register) (named_so : register_of n ≡ reg.Present r) where
-  pub base_closes : Runs (state f (phase.Name (named.Base o) n)) (41 ∷ []) (state f (phase.Closed (plain_address o (reg.Present r))))
+module _ (f : Option InstructionArgument) (o : ℕ) (n : ℕ) (r : Register) (named_so : register_of n ≡ Some r) where
+  pub base_closes : Runs (state f (phase.Name (named.Base o) n)) (41 ∷ []) (state f (phase.Closed (plain_address o (Some r))))
   base_closes = by_step 41 (rw (no_close n, named_so))
 
-  base_goes_on : Runs (state f (phase.Name (named.Base o) n)) (44 ∷ []) (state f (phase.IndexWanted o (reg.Present r)))
+  base_goes_on : Runs (state f (phase.Name (named.Base o) n)) (44 ∷ []) (state f (phase.IndexWanted o (Some r)))
   base_goes_on = by_step 44 (rw (no_comma n, named_so))
 
-  pub index_goes_on : (b : SomeRegister) → Runs (state f (phase.Name (named.Index o b) n)) (44 ∷ [])
+  pub index_goes_on : (b : Option Register) → Runs (state f (phase.Name (named.Index o b) n)) (44 ∷ [])
       (state f (phase.FirstDigit (numbered.Scale o b r)))
   index_goes_on b = by_step 44 (rw (no_comma n, named_so))
 
 -- ---- addresses
 -- the text t leads from a state to one at which the operand a is read
-pub record Arrives (f : SomeArgument) (from : Phase) (t : List ℕ) (a : InstructionArgument) : Type 0 where
+pub record Arrives (f : Option InstructionArgument) (from : Phase) (t : List ℕ) (a : InstructionArgument) : Type 0 where
   pub end : Phase
   pub runs : Runs (state f from) t (state f end)
-  pub done : finished_operand end ≡ some.Present a
+  pub done : finished_operand end ≡ Some a
 
 -- neither a parenthesis nor a comma is a digit
-no_digit : (n : Numeral) (v b : ℕ) → b < 48 → next_digit n v b ≡ number.Absent
+no_digit : (n : Numeral) (v b : ℕ) → b < 48 → next_digit n v b ≡ None
 unfolding next_digit
 no_digit n v b h =
     let high : radix_of n ≤ digit_value b = omega (arith, value_low b h, (radix n).small) in
     rw (le-ltb (digit_value b) (radix_of n) high)
 
 -- an operand that is read to its end does not go on with a comma
-operand_stops : (n : ℕ) (found : SomeRegister) → after_node named.Operand found 44 ≡ step.Nowhere
-operand_stops n reg.Absent = refl
-operand_stops n (reg.Present r) = refl
+operand_stops : (n : ℕ) (found : Option Register) → after_node named.Operand found 44 ≡ None
+operand_stops n None = refl
+operand_stops n (Some r) = refl
 
-pub finished_stops : {a : InstructionArgument} (p : Phase) → finished_operand p ≡ some.Present a → stepped p 44 ≡ step.Nowhere
+pub finished_stops : {a : InstructionArgument} (p : Phase) → finished_operand p ≡ Some a → stepped p 44 ≡ None
 finished_stops (phase.Lead l) e = absent e
 finished_stops (phase.FirstDigit role) e = absent e
 finished_stops (phase.Digits numbered.Immediate v) e = rw (no_digit numeral.Immediate v 44 (omega arith))
@@ -127,15 +116,15 @@ finished_stops (phase.IndexWanted o b) e = absent e
 finished_stops (phase.Closed x) e = refl
 
 -- a displacement leads to a phase from which an address may open, or which is one already
-record Displaced (f : SomeArgument) (d : ℤ) : Type 0 where
+record Displaced (f : Option InstructionArgument) (d : ℤ) : Type 0 where
   here : Phase
   offset : ℕ
   runs : Runs (state f (phase.Lead lead.Nothing)) (displacement_text d) (state f here)
   opens : Runs (state f here) (40 ∷ []) (state f (phase.Opened offset))
-  done : finished_operand here ≡ some.Present (plain_address offset reg.Absent)
+  done : finished_operand here ≡ Some (plain_address offset None)
   means : to_z w32 offset ≡ d
 
-displaced : (f : SomeArgument) (d : ℤ) → SFits w32 d → Displaced f d
+displaced : (f : Option InstructionArgument) (d : ℤ) → SFits w32 d → Displaced f d
 displaced f (pos n) h =
     let w : Within numeral.Above n = record { least = omega arith; most = omega (arith, h.sfits) } in
     record {
@@ -157,44 +146,44 @@ displaced f (negsuc n) h =
       means = negative_means n w.most;
     }
 
-module _ (f : SomeArgument) where
+module _ (f : Option InstructionArgument) where
   pub base_begins : (o : ℕ) → Runs (state f (phase.Opened o)) (37 ∷ []) (state f (phase.Name (named.Base o) 0))
   base_begins o = by_step 37 refl
 
-  pub index_begins : (o : ℕ) (b : SomeRegister) → Runs (state f (phase.IndexWanted o b)) (37 ∷ [])
+  pub index_begins : (o : ℕ) (b : Option Register) → Runs (state f (phase.IndexWanted o b)) (37 ∷ [])
       (state f (phase.Name (named.Index o b) 0))
   index_begins o b = by_step 37 refl
 
-  pub scale_closes : (o : ℕ) (b : SomeRegister) (i : Register) (v : ℕ) →
+  pub scale_closes : (o : ℕ) (b : Option Register) (i : Register) (v : ℕ) →
       Runs (state f (phase.Digits (numbered.Scale o b i) v)) (41 ∷ []) (state f (phase.Closed (indexed_address o b i v)))
   scale_closes o b i v = by_step 41 (rw (no_digit numeral.Scale v 41 (omega arith)))
 
-module _ (f : SomeArgument) {d : ℤ} (here-so : Displaced f d) where
-  to_index_lem : (b : SomeRegister) →
+module _ (f : Option InstructionArgument) {d : ℤ} (here-so : Displaced f d) where
+  to_index_lem : (b : Option Register) →
       Runs (state f here-so.here) (ascii "(" ++ base_text b ++ ascii ",") (state f (phase.IndexWanted here-so.offset b))
-  to_index_lem reg.Absent = here-so.opens then by_step 44 refl
-  to_index_lem (reg.Present r) =
+  to_index_lem None = here-so.opens then by_step 44 refl
+  to_index_lem (Some r) =
       let o = here-so.offset in
       here-so.opens then base_begins f o then name_runs f (named.Base o) r then base_goes_on f o (node_of r) r (register_at_node r)
 
-  address_arrives : (b i : SomeRegister) (s : SomeScale) → Lossless Bit64 (arg.EffectiveAddress b i s d) →
+  address_arrives : (b i : Option Register) (s : Option ℕ) → Lossless Bit64 (arg.EffectiveAddress b i s d) →
       Arrives f here-so.here (address_text b i s) (arg.EffectiveAddress b i s d)
-  address_arrives reg.Absent reg.Absent scale.Absent w =
+  address_arrives None None None w =
       record {
         end = here-so.here;
         runs = stay;
-        done = here-so.done ∙ ap (λ (z : ℤ). some.Present (arg.EffectiveAddress reg.Absent reg.Absent scale.Absent z)) here-so.means;
+        done = here-so.done ∙ ap (λ (z : ℤ). Some (arg.EffectiveAddress None None None z)) here-so.means;
       }
-  address_arrives (reg.Present b) reg.Absent scale.Absent w =
+  address_arrives (Some b) None None w =
       let o = here-so.offset in
       record {
-        end = phase.Closed (plain_address o (reg.Present b));
+        end = phase.Closed (plain_address o (Some b));
         runs = here-so.opens then base_begins f o then name_runs f (named.Base o) b then base_closes f o (node_of b) b (register_at_node b);
-        done = ap (λ (z : ℤ). some.Present (arg.EffectiveAddress (reg.Present b) reg.Absent scale.Absent z)) here-so.means;
+        done = ap (λ (z : ℤ). Some (arg.EffectiveAddress (Some b) None None z)) here-so.means;
       }
-  address_arrives b reg.Absent (scale.Present s) w = apart (let z = w.scaled in cc)
-  address_arrives b (reg.Present i) scale.Absent w = apart (let z = w.printed in cc)
-  address_arrives b (reg.Present i) (scale.Present s) w =
+  address_arrives b None (Some s) w = apart (let z = w.scaled in cc)
+  address_arrives b (Some i) None w = apart (let z = w.printed in cc)
+  address_arrives b (Some i) (Some s) w =
       let o = here-so.offset in
       let byte : Within numeral.Scale s = record { least = omega arith; most = omega (arith, w.held.1) } in
       let index = index_begins f o b then name_runs f (named.Index o b) i in
@@ -203,12 +192,12 @@ module _ (f : SomeArgument) {d : ℤ} (here-so : Displaced f d) where
         end = phase.Closed (indexed_address o b i s);
         runs = to_index_lem b then index then comma then number_runs f (numbered.Scale o b i) s byte then scale_closes f o b i s;
         done =
-            ap₂ (λ (n : ℕ) (z : ℤ). some.Present (arg.EffectiveAddress b (reg.Present i) (scale.Present n) z))
+            ap₂ (λ (n : ℕ) (z : ℤ). Some (arg.EffectiveAddress b (Some i) (Some n) z))
             (scale_means s byte.most) here-so.means;
       }
 
 -- every operand of which print loses nothing is run through
-pub operand_arrives : (f : SomeArgument) (x : InstructionArgument) → Lossless Bit64 x →
+pub operand_arrives : (f : Option InstructionArgument) (x : InstructionArgument) → Lossless Bit64 x →
     Arrives f (phase.Lead lead.Nothing) (operand_text Bit64 x) x
 operand_arrives f (arg.Immediate v) w =
     let bound : Within numeral.Immediate v = record { least = omega arith; most = omega (arith, w.held) } in

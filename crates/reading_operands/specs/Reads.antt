@@ -1,5 +1,6 @@
 -- What reading back answers (RULES 6.10 to 6.12), in terms of the printing definitions alone: nothing here speaks of how the reader
 -- works.
+use Rattle.std.specs.Prelude.{Option, Some, None, Result, Ok, Err}
 use Rattle.std.specs.Prelude.{Bool, true, false, List, [], ◌∷◌, ◌++◌, ◌≡◌, ℕ, suc, ◌*◌, ◌^◌, ◌≤◌, ◌<◌, length, take}
 use Rattle.std.specs.Int.{w32}
 use Rattle.std.proofs.Common.{SFits}
@@ -10,20 +11,14 @@ use Rattle.instruction_set.specs.declared.ArgumentSize.{ArgumentSize}
 use Rattle.instruction_set.specs.declared.ArgumentSize.TheVariants.{Bit64}
 use Rattle.instruction_set.specs.declared.InstructionArgument.{InstructionArgument}
 use Rattle.instruction_set.specs.declared.InstructionArgument.TheVariants as arg
-use Rattle.instruction_set.specs.declared.SomeArgument.{SomeArgument}
-use Rattle.instruction_set.specs.declared.SomeArgument.TheVariants as some
-use Rattle.instruction_set.specs.declared.SomeRegister.TheVariants as reg
-use Rattle.instruction_set.specs.declared.SomeScale.{SomeScale}
-use Rattle.instruction_set.specs.declared.SomeScale.TheVariants as scale
 use Rattle.text_operands.specs.Operands.{list_text}
-use Rattle.reading_operands.specs.declared.Read.{Read}
-use Rattle.reading_operands.specs.declared.Read.TheVariants.{Operands, NotOperandText}
+use Rattle.reading_operands.specs.declared.NotOperandText.{NotOperandText}
 
 -- ---- operands, and what print shows of them
 -- the ranges of the code's types: an immediate is a u64, a scale a u8, a displacement an i32
-abbrev pub HeldScale : SomeScale → Type 0
-HeldScale scale.Absent = Unit {0}
-HeldScale (scale.Present s) = s < 256
+abbrev pub HeldScale : Option ℕ → Type 0
+HeldScale None = Unit {0}
+HeldScale (Some s) = s < 256
 
 abbrev pub Held : InstructionArgument → Type 0
 Held (arg.Immediate v) = v < 2 ^ 64
@@ -40,9 +35,9 @@ WithinSize size (arg.EffectiveAddress b i s d) = Unit {0}
 abbrev pub idle_scale : InstructionArgument → Bool
 idle_scale (arg.Immediate v) = false
 idle_scale (arg.Register r) = false
-idle_scale (arg.EffectiveAddress b reg.Absent scale.Absent d) = false
-idle_scale (arg.EffectiveAddress b reg.Absent (scale.Present s) d) = true
-idle_scale (arg.EffectiveAddress b (reg.Present i) s d) = false
+idle_scale (arg.EffectiveAddress b None None d) = false
+idle_scale (arg.EffectiveAddress b None (Some s) d) = true
+idle_scale (arg.EffectiveAddress b (Some i) s d) = false
 
 -- an operand that is printed (3 is not given), and of which print at a size loses nothing
 pub record Lossless (size : ArgumentSize) (x : InstructionArgument) : Type 0 where
@@ -52,15 +47,15 @@ pub record Lossless (size : ArgumentSize) (x : InstructionArgument) : Type 0 whe
   pub scaled : idle_scale x ≡ false
 
 -- of a second operand, where there is one
-abbrev pub OfSecond : (InstructionArgument → Type 0) → SomeArgument → Type 0
-OfSecond P some.Absent = Unit {0}
-OfSecond P (some.Present y) = P y
+abbrev pub OfSecond : (InstructionArgument → Type 0) → Option InstructionArgument → Type 0
+OfSecond P None = Unit {0}
+OfSecond P (Some y) = P y
 
 -- ---- operand text: what is printed, at whatever size, of one operand or of two joined by a comma (RULES 6.10)
 pub record OperandText (t : List ℕ) : Type 0 where
   pub size : ArgumentSize
   pub first : InstructionArgument
-  pub second : SomeArgument
+  pub second : Option InstructionArgument
   pub first_held : Held first
   pub second_held : OfSecond Held second
   pub first_printed : lacks_scale first ≡ false
@@ -76,21 +71,25 @@ pub record StopsAt (t : List ℕ) (k : ℕ) : Type 0 where
   pub stops : k < length t → (u : List ℕ) → OperandText (take (suc k) t ++ u) → ⊥
 
 -- the text shows these operands (RULES 6.11): an immediate is its 64 bits, since no size is read
-pub record Shows (t : List ℕ) (x : InstructionArgument) (y : SomeArgument) : Type 0 where
+pub record Shows (t : List ℕ) (x : InstructionArgument) (y : Option InstructionArgument) : Type 0 where
   pub first : Lossless Bit64 x
   pub second : OfSecond (Lossless Bit64) y
   pub text : t ≡ list_text Bit64 x y
 
--- ---- the answer to a text; a text has exactly one (`one_answer`, `answered`: proofs/Answers.antt)
-abbrev pub Reads : List ℕ → Read → Type 0
-Reads t (Operands x y) = Shows t x y
-Reads t (NotOperandText k) = StopsAt t k
+-- ---- the answer to a text: one operand or two, or the offset; a text has exactly one answer (`one_answer`, `answered`:
+-- proofs/Answers.antt)
+abbrev pub Reading : Type 0
+Reading = Result (InstructionArgument × Option InstructionArgument) NotOperandText
 
--- its number and what it says (RULES 7.5, 9.3): the operands, or 13 and the offset
+abbrev pub Reads : List ℕ → Reading → Type 0
+Reads t (Ok read) = Shows t read.0 read.1
+Reads t (Err refusal) = StopsAt t refusal.offset
+
+-- its number and what it says (RULES 7.5, 9.3): 0 and the operands, or 13 and the offset
 pub data Finding : Type 0 where
-  operands : InstructionArgument → SomeArgument → Finding
+  operands : InstructionArgument → Option InstructionArgument → Finding
   offset : ℕ → Finding
 
-abbrev pub operands_outcome : Read → Outcome Finding
-operands_outcome (Operands x y) = gives (operands x y ∷ [])
-operands_outcome (NotOperandText k) = refuses_with 13 (offset k ∷ [])
+abbrev pub operands_outcome : Reading → Outcome Finding
+operands_outcome (Ok read) = gives (operands read.0 read.1 ∷ [])
+operands_outcome (Err refusal) = refuses_with 13 (offset refusal.offset ∷ [])

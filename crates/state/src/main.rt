@@ -6,30 +6,17 @@
 use instruction_set::Register;
 use machine_state::MachineState;
 use std::io;
-use text::Text;
-
-const MINUS_ONE: u64 = 0xFFFF_FFFF_FFFF_FFFF;
-
-fn print(rt: &impl Print, out: &[u8], n: usize) -> io::Result<()> {
-    if n <= out.len() {
-        rt.write_all(&out[..n])?;
-    }
-    Ok(())
-}
 
 fn main(rt: HostRuntime) -> io::Result<()> {
-    let whole = MachineState::new()
-        .set_register_value(Register::RAX, MINUS_ONE)
-        .machine;
-    let high = whole.set_register_value(Register::AH, 0x1234).machine;
-    let low = high.set_register_value(Register::R8D, MINUS_ONE).machine;
-    let mut dir = [0u64; 1];
-    let mut bytes = [0u8; 4096];
-    let pushed = low.stack_push(b"8 bytes.", &mut dir, &mut bytes, 0);
-    let mut out = [0u8; 577];
-    let said = text::state_text(pushed.machine, &mut out);
-    let Text::Length(n) = said else {
-        return eprintln!(rt; "the state's text is longer than 577 bytes");
-    };
-    print(&rt, &out, n)
+    let whole = MachineState::new().set_register_value(Register::RAX, u64::MAX);
+    let high = whole.machine.set_register_value(Register::AH, 0x1234);
+    let low = high.machine.set_register_value(Register::R8D, u64::MAX);
+    let mut dir = [0; 1];
+    let mut bytes = [0; 4096];
+    let pushed = low.machine.stack_push(b"8 bytes.", &mut dir, &mut bytes, 0);
+    let mut out = [0; 577];
+    match text::state_text(pushed.machine, &mut out) {
+        Ok(n) => rt.write_all(&out[..n]),
+        Err(_) => eprintln!(rt; "the state's text is longer than 577 bytes"),
+    }
 }

@@ -1,6 +1,7 @@
 -- What writing n bytes does, for any n that the store has room for: it stays a store, its count grows by the absent pages touched, the
 -- bytes written read as given, every other byte and every slot not touched stay. By induction on the bytes: one byte takes a slot exactly
 -- if its page is absent, and the next bytes find it there.
+use Rattle.std.specs.Prelude.{Option, Some, None}
 use mathlib.Core.Path.{◌≡◌, refl, sym, ap, ◌∙◌}
 use mathlib.Core.Logic.{◌⊎◌, inl, inr, ⊎_elim}
 use mathlib.Core.List.{List, [], ◌∷◌, ◌++◌}
@@ -10,37 +11,38 @@ use native.Mathlib.Omega.{arith}
 use native.Mathlib.Decide.{ℕ_discrete}
 use lib.ListN.{length, get_or, set, length-set}
 use lib.Seq.{get_or-set_same, get_or-set_other, get_or-take}
-use Rattle.store.specs.Store.{Store, store_of, pages_in_use, found_in, byte_at, slot_taken_if, with_page, stored, put_byte, written, slots_needed, pages_from}
+use Rattle.store.specs.Store.{Store, store_of, pages_in_use, found_in, byte_at, slot_taken_if, with_page, stored, put_byte, written}
+use Rattle.store.specs.Store.{slots_needed, pages_from}
 use Rattle.store.specs.Store.{touched, absent_of}
 use Rattle.store.specs.Facts.{IsStore, Room, no_bytes}
-use Rattle.store.specs.declared.Found.{Found}
-use Rattle.store.specs.declared.Found.TheVariants.{At, Nothing}
 use Rattle.store.proofs.Seek.{seek_at, found_seek}
 use Rattle.byte_runs.proofs.Filled.{get_or_filled_other}
 use Rattle.store.proofs.Read.{live_len, Place, here, missing, place, byte_here, byte_missing}
 use Rattle.store.proofs.Slot.{with_here, with_missing, found_taken, room_missing, sound_with, found_with, other_with, byte_with}
 
 -- ---- one byte, in a page that has a slot
-stored_at : (s : Store) (p i b : ℕ) → found_in (pages_in_use s) (p / 4096) ≡ At i
+stored_at : (s : Store) (p i b : ℕ) → found_in (pages_in_use s) (p / 4096) ≡ Some i
     → stored s p b ≡ store_of s.dir (set s.bytes (4096 * i + p % 4096) b) s.used
 unfolding stored
 stored_at s p i b e = rw (found_seek (pages_in_use s) (p / 4096) i e).0
 
 -- two pages in one slot are one page
-same_page : (s : Store) (g k i : ℕ) → found_in (pages_in_use s) g ≡ At i → found_in (pages_in_use s) k ≡ At i → g ≡ k
+same_page : (s : Store) (g k i : ℕ) → found_in (pages_in_use s) g ≡ Some i → found_in (pages_in_use s) k ≡ Some i → g ≡ k
 same_page s g k i e e' =
     let a = found_seek (pages_in_use s) g i e in
     let b = found_seek (pages_in_use s) k i e' in
-    sym (seek_at (pages_in_use s) g (omega arith)) ∙ ap (λ (j : ℕ). get_or (pages_in_use s) j 0) (a.0 ∙ sym b.0) ∙ seek_at (pages_in_use s) k (omega arith)
+    sym (seek_at (pages_in_use s) g (omega arith)) ∙ ap (λ (j : ℕ). get_or (pages_in_use s) j 0) (a.0 ∙ sym b.0)
+    ∙ seek_at (pages_in_use s) k (omega arith)
 
 -- a slot found holds the page's number
-slot_number : (s : Store) → IsStore s → (g i : ℕ) → found_in (pages_in_use s) g ≡ At i → get_or s.dir i 0 ≡ g
+slot_number : (s : Store) → IsStore s → (g i : ℕ) → found_in (pages_in_use s) g ≡ Some i → get_or s.dir i 0 ≡ g
 slot_number s h g i e =
     let a = found_seek (pages_in_use s) g i e in
     let n = live_len s h in
-    sym (get_or-take s.used s.dir i 0 (omega arith)) ∙ ap (λ (j : ℕ). get_or (pages_in_use s) j 0) (sym a.0) ∙ seek_at (pages_in_use s) g (omega arith)
+    sym (get_or-take s.used s.dir i 0 (omega arith)) ∙ ap (λ (j : ℕ). get_or (pages_in_use s) j 0) (sym a.0)
+    ∙ seek_at (pages_in_use s) g (omega arith)
 
-module _ (s : Store) (h : IsStore s) (p i b : ℕ) (e : found_in (pages_in_use s) (p / 4096) ≡ At i) where
+module _ (s : Store) (h : IsStore s) (p i b : ℕ) (e : found_in (pages_in_use s) (p / 4096) ≡ Some i) where
   stored_same : byte_at (stored s p b) p ≡ b
   stored_same =
       let w = found_seek (pages_in_use s) (p / 4096) i e in
@@ -110,9 +112,10 @@ module _ (s : Store) (h : IsStore s) (p b : ℕ) (r : Room s (p / 4096)) where
           ∙ get_or_filled_other s.bytes (4096 * s.used) no_bytes 4096 (4096 * i + o) (inl (omega arith)))
 
 -- the count and the slots after one byte
-if_count : (s : Store) (g : ℕ) (f : Found) → ((slot_taken_if s g f).used ≡ s.used + slots_needed f) × (length (slot_taken_if s g f).dir ≡ length s.dir)
-if_count s g (At i) = (omega arith, refl)
-if_count s g Nothing = (omega arith, length-set s.dir s.used g)
+if_count : (s : Store) (g : ℕ) (f : Option ℕ)
+    → ((slot_taken_if s g f).used ≡ s.used + slots_needed f) × (length (slot_taken_if s g f).dir ≡ length s.dir)
+if_count s g (Some i) = (omega arith, refl)
+if_count s g None = (omega arith, length-set s.dir s.used g)
 
 put_count : (s : Store) (p b : ℕ)
     → ((put_byte s p b).used ≡ s.used + slots_needed (found_in (pages_in_use s) (p / 4096))) × (length (put_byte s p b).dir ≡ length s.dir)
@@ -120,9 +123,9 @@ unfolding put_byte stored with_page
 put_count s p b = if_count s (p / 4096) (found_in (pages_in_use s) (p / 4096))
 
 -- a slot in use keeps its number
-if_number : (s : Store) (g i : ℕ) (f : Found) → i < s.used → get_or (slot_taken_if s g f).dir i 0 ≡ get_or s.dir i 0
-if_number s g i (At j) lt = refl
-if_number s g i Nothing lt = get_or-set_other s.dir s.used i g 0 (λ e. omega arith)
+if_number : (s : Store) (g i : ℕ) (f : Option ℕ) → i < s.used → get_or (slot_taken_if s g f).dir i 0 ≡ get_or s.dir i 0
+if_number s g i (Some j) lt = refl
+if_number s g i None lt = get_or-set_other s.dir s.used i g 0 (λ e. omega arith)
 
 put_number : (s : Store) (p b i : ℕ) → i < s.used → get_or (put_byte s p b).dir i 0 ≡ get_or s.dir i 0
 unfolding put_byte stored with_page

@@ -1,4 +1,5 @@
 -- The search of the directory: what `seek` and `found_in` give. Each law goes by induction along the list, one slot at a time.
+use Rattle.std.specs.Prelude.{Option, Some, None, MatchOption}
 use mathlib.Core.Path.{◌≡◌, refl, sym, ap, ◌∙◌}
 use mathlib.Core.Logic.{⊎_elim}
 use mathlib.Core.Bool.{Bool, true, false, cond}
@@ -7,27 +8,12 @@ use Prim.Native.Nat.{ℕ, zero, suc, ◌+◌, ◌<◌, ◌≤◌, zero-le}
 use native.Mathlib.Nat.{eq-or-lt_of_le, zero-add}
 use native.Mathlib.Omega.{arith}
 use lib.Dec.{ltb, eqb}
-use lib.ListN.{length, get_or, take}
-use lib.Seq.{get_or-take}
+use lib.ListN.{length, get_or, take, drop, length-drop}
+use Rattle.std.proofs.lemmas.List.{length-take}
+use lib.Seq.{get_or-take, get_or-drop, length-take-le}
+use Rattle.std.specs.List.{AllWithin, HoldsAt}
 use borrow.Author.Tests.{eqb-true, eq-eqb, ne_eqb, lt-ltb, le-ltb, ltb-true}
 use Rattle.store.specs.Store.{seek, found_in, pick_found}
-use Rattle.store.specs.declared.Found.TheVariants.{At, Nothing}
-
--- the length of the slots in use
-pub take_short : (n : ℕ) (l : List ℕ) → (length (take n l) ≤ n) × (length (take n l) ≤ length l)
-take_short zero l = (zero-le, zero-le)
-take_short (suc n) [] = (zero-le, zero-le)
-take_short (suc n) (x ∷ l) = let h = take_short n l in (omega arith, omega arith)
-
-pub take_long : (n : ℕ) (l : List ℕ) (i : ℕ) → i < n → i < length l → i < length (take n l)
-take_long zero l i h k = omega arith
-take_long (suc n) [] i h k = omega arith
-take_long (suc n) (x ∷ l) zero h k = omega arith
-take_long (suc n) (x ∷ l) (suc i) h k = omega (arith, take_long n l i (omega arith) (omega arith))
-
-pub take_full : (n : ℕ) (l : List ℕ) (k : ℕ) → k ≤ n → k ≤ length l → k ≤ length (take n l)
-take_full n l zero h m = zero-le
-take_full n l (suc i) h m = omega (arith, take_long n l i (omega arith) (omega arith))
 
 -- the position is within the list, or is its length
 pub seek_len : (l : List ℕ) (p : ℕ) → seek l p ≤ length l
@@ -59,11 +45,44 @@ seek_le (x ∷ xs) p (suc i) h e =
 pub seek_more : (l : List ℕ) (p i : ℕ) → i ≤ seek l p → i < length l → (get_or l i 0 ≡ p → ⊥) → i + 1 ≤ seek l p
 seek_more l p i h k other = ⊎_elim (λ e. absurd (other (rw (← e) at (seek_at l p (omega arith))))) (λ lt. omega arith) (eq-or-lt_of_le h)
 
-pub found_at : (l : List ℕ) (p i : ℕ) → seek l p ≡ i → i < length l → found_in l p ≡ At i
+-- k steps of it, and the first of four
+pub seek_run : (l : List ℕ) (p i k : ℕ) → i ≤ seek l p → i + k ≤ length l → ((j : ℕ) → j < k → get_or l (i + j) 0 ≡ p → ⊥)
+    → i + k ≤ seek l p
+seek_run l p i zero h r other = omega arith
+seek_run l p i (suc k) h r other =
+    let before = seek_run l p i k h (omega arith) (λ j lt. other j (omega arith)) in
+    omega (arith, seek_more l p (i + k) before (omega arith) (other k (omega arith)))
+
+-- r is the position of the first p in l, if one stands there
+abbrev pub IsFirst : ℕ → List ℕ → Option ℕ → Type 0
+IsFirst p l r =
+    MatchOption r (AllWithin (λ x. x ≡ p → ⊥) l 0 (length l))
+    (λ k. (k < length l) × HoldsAt (λ x. x ≡ p) l k × AllWithin (λ x. x ≡ p → ⊥) l 0 k)
+
+pub seek_four : (l : List ℕ) (p i m : ℕ) (r : Option ℕ) → m ≡ 4 → i ≤ seek l p → i + 4 ≤ length l
+    → IsFirst p (take m (drop i l)) r
+    → MatchOption r (i + 4 ≤ seek l p) (λ k. (k < 4) × (i + k ≡ seek l p))
+seek_four l p i m r e h n w = go r (rw e at w)
+  where
+    size : length (take 4 (drop i l)) ≡ 4
+    size = length-take-le 4 (drop i l) (omega (arith, length-drop i l))
+
+    at : (j : ℕ) → j < 4 → get_or (take 4 (drop i l)) j 0 ≡ get_or l (i + j) 0
+    at j lt = get_or-take 4 (drop i l) j 0 lt ∙ get_or-drop i l j 0
+
+    go : (r : Option ℕ) → IsFirst p (take 4 (drop i l)) r → MatchOption r (i + 4 ≤ seek l p) (λ k. (k < 4) × (i + k ≡ seek l p))
+    go None w = seek_run l p i 4 h n (λ j lt q. w j 0 (omega arith) (omega (arith, size)) (at j lt ∙ q))
+    go (Some k) w =
+        let lt : k < 4 = omega (arith, size, w.0) in
+        let most = seek_run l p i k h (omega arith) (λ j b q. w.2 j 0 (omega arith) b (at j (omega arith) ∙ q)) in
+        let least = seek_le l p (i + k) (omega arith) (sym (at k lt) ∙ w.1 0) in
+        (lt, omega arith)
+
+pub found_at : (l : List ℕ) (p i : ℕ) → seek l p ≡ i → i < length l → found_in l p ≡ Some i
 unfolding found_in
 found_at l p i e h = rw (e, lt-ltb i (length l))
 
-pub found_none : (l : List ℕ) (p : ℕ) → length l ≤ seek l p → found_in l p ≡ Nothing
+pub found_none : (l : List ℕ) (p : ℕ) → length l ≤ seek l p → found_in l p ≡ None
 unfolding found_in
 found_none l p h = rw (le-ltb (seek l p) (length l))
 
@@ -80,25 +99,25 @@ seek_taken (suc n) (x ∷ l) p (suc i) h k m = go (λ q. seek_taken n l p i q (o
     go ih true q = omega arith
     go ih false q = omega (arith, ih (omega arith))
 
-pub found_taken : (n : ℕ) (l : List ℕ) (p i : ℕ) → i ≡ seek l p → i < length (take n l) → found_in (take n l) p ≡ At i
+pub found_taken : (n : ℕ) (l : List ℕ) (p i : ℕ) → i ≡ seek l p → i < length (take n l) → found_in (take n l) p ≡ Some i
 found_taken n l p i e h =
-    let short = take_short n l in
+    let short = length-take n l in
     let there : get_or l i 0 ≡ p = rw e (seek_at l p (omega arith)) in
     let least : seek (take n l) p ≤ i = seek_le (take n l) p i h (get_or-take n l i 0 (omega arith) ∙ there) in
     let most : i ≤ seek (take n l) p = seek_taken n l p i (omega arith) (omega arith) (omega arith) in
     found_at (take n l) p i (omega arith) h
 
-pub none_taken : (n : ℕ) (l : List ℕ) (p : ℕ) → length (take n l) ≤ seek l p → found_in (take n l) p ≡ Nothing
+pub none_taken : (n : ℕ) (l : List ℕ) (p : ℕ) → length (take n l) ≤ seek l p → found_in (take n l) p ≡ None
 none_taken n l p h =
-    let short = take_short n l in
-    found_none (take n l) p (seek_taken n l p (length (take n l)) h short.0 short.1)
+    let short = length-take n l in
+    found_none (take n l) p (seek_taken n l p (length (take n l)) h (omega arith) (omega arith))
 
 -- a slot found is the position sought
-pub found_seek : (l : List ℕ) (g i : ℕ) → found_in l g ≡ At i → (seek l g ≡ i) × (i < length l)
+pub found_seek : (l : List ℕ) (g i : ℕ) → found_in l g ≡ Some i → (seek l g ≡ i) × (i < length l)
 unfolding found_in
 found_seek l g i e = go (ltb (seek l g) (length l)) refl e
   where
-    go : (b : Bool) → ltb (seek l g) (length l) ≡ b → pick_found b (seek l g) ≡ At i → (seek l g ≡ i) × (i < length l)
+    go : (b : Bool) → ltb (seek l g) (length l) ≡ b → pick_found b (seek l g) ≡ Some i → (seek l g ≡ i) × (i < length l)
     go true t q =
         let w : seek l g ≡ i = cc in
         (w, omega (arith, ltb-true (seek l g) (length l) t))

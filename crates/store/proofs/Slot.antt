@@ -1,6 +1,7 @@
 -- A page that has a slot, or room for one: what taking the slot makes of the store, and that one page's part of a write, copied at once,
 -- is `written` byte by byte. The idea: only the first byte of a part can take a slot; from then on the page is there and each byte is
 -- one `set`.
+use Rattle.std.specs.Prelude.{Some, None}
 use mathlib.Core.Path.{◌≡◌, refl, sym, ap, ◌∙◌, subst}
 use mathlib.Core.Logic.{inl}
 use mathlib.Core.List.{List, [], ◌∷◌, ◌++◌}
@@ -8,39 +9,37 @@ use Prim.Native.Nat.{ℕ, zero, suc, ◌+◌, ◌*◌, ◌/◌, ◌%◌, ◌<◌
 use native.Mathlib.Nat.{add-zero, add_assoc, add-suc}
 use native.Mathlib.Omega.{arith}
 use native.Mathlib.Decide.{ℕ_discrete}
-use lib.ListN.{length, get_or, set, length-set, length-append}
+use Rattle.std.proofs.lemmas.List.{length_push}
+use lib.ListN.{length, get_or, set, length-set}
 use lib.Seq.{take-suc-set}
 use Rattle.byte_runs.specs.Runs.{filled}
 use Rattle.store.specs.Store.{Store, store_of, pages_in_use, seek, found_in, byte_at, with_page, stored, put_byte, written, slots_needed}
 use Rattle.store.specs.Facts.{IsStore, Room, no_bytes}
-use Rattle.store.specs.declared.Found.TheVariants.{At, Nothing}
 use Rattle.store.proofs.Seek.{seek_in, seek_past, seek_one, seek_other, found_at, found_none, found_seek}
 use Rattle.byte_runs.proofs.Filled.{length_filled, get_or_filled, get_or_filled_other}
 use Rattle.store.proofs.Read.{live_len, Place, here, missing, place, byte_here, byte_missing}
 
 -- what a page that is present, or absent, makes of the store
-pub with_here : (s : Store) (g i : ℕ) → found_in (pages_in_use s) g ≡ At i → with_page s g ≡ s
+pub with_here : (s : Store) (g i : ℕ) → found_in (pages_in_use s) g ≡ Some i → with_page s g ≡ s
 unfolding with_page
 with_here s g i e = rw e
 
-pub with_missing : (s : Store) (g : ℕ) → found_in (pages_in_use s) g ≡ Nothing
+pub with_missing : (s : Store) (g : ℕ) → found_in (pages_in_use s) g ≡ None
     → with_page s g ≡ store_of (set s.dir s.used g) (filled s.bytes (4096 * s.used) no_bytes 4096) (suc s.used)
 unfolding with_page
 with_missing s g e = rw e
 
-length_snoc : (l : List ℕ) (x : ℕ) → length (l ++ (x ∷ [])) ≡ suc (length l)
-length_snoc l x = omega (arith, length-append l (x ∷ []))
-
-module _ (s : Store) (h : IsStore s) (g : ℕ) (r : s.used < length s.dir) (e : found_in (pages_in_use s) g ≡ Nothing)
+module _ (s : Store) (h : IsStore s) (g : ℕ) (r : s.used < length s.dir) (e : found_in (pages_in_use s) g ≡ None)
     (w : seek (pages_in_use s) g ≡ s.used) where
   pub live_taken : pages_in_use (with_page s g) ≡ pages_in_use s ++ (g ∷ [])
   live_taken = ap pages_in_use (with_missing s g e) ∙ take-suc-set s.dir s.used g r
 
-  pub found_taken : found_in (pages_in_use (with_page s g)) g ≡ At s.used
+  pub found_taken : found_in (pages_in_use (with_page s g)) g ≡ Some s.used
   found_taken =
       let n = live_len s h in
-      let q : seek (pages_in_use s ++ (g ∷ [])) g ≡ s.used = omega (arith, seek_past (pages_in_use s) (g ∷ []) g (omega arith), seek_one g g refl) in
-      rw live_taken (found_at (pages_in_use s ++ (g ∷ [])) g s.used q (omega (arith, length_snoc (pages_in_use s) g)))
+      let q : seek (pages_in_use s ++ (g ∷ [])) g ≡ s.used =
+      omega (arith, seek_past (pages_in_use s) (g ∷ []) g (omega arith), seek_one g g refl) in
+      rw live_taken (found_at (pages_in_use s ++ (g ∷ [])) g s.used q (omega (arith, length_push (pages_in_use s) g)))
 
   pub other_taken : (k : ℕ) → (g ≡ k → ⊥) → found_in (pages_in_use (with_page s g)) k ≡ found_in (pages_in_use s) k
   other_taken k ne = rw live_taken (go (place s h k))
@@ -48,12 +47,13 @@ module _ (s : Store) (h : IsStore s) (g : ℕ) (r : s.used < length s.dir) (e : 
       go : Place s k → found_in (pages_in_use s ++ (g ∷ [])) k ≡ found_in (pages_in_use s) k
       go (here i lt q f) =
           let n = live_len s h in
-          found_at (pages_in_use s ++ (g ∷ [])) k i (seek_in (pages_in_use s) (g ∷ []) k (omega arith) ∙ q) (omega (arith, length_snoc (pages_in_use s) g))
+          found_at (pages_in_use s ++ (g ∷ [])) k i (seek_in (pages_in_use s) (g ∷ []) k (omega arith) ∙ q)
+          (omega (arith, length_push (pages_in_use s) g))
           ∙ sym f
       go (missing q f) =
           let n = live_len s h in
           found_none (pages_in_use s ++ (g ∷ [])) k
-          (omega (arith, length_snoc (pages_in_use s) g, seek_past (pages_in_use s) (g ∷ []) k (omega arith), seek_other g k ne)) ∙ sym f
+          (omega (arith, length_push (pages_in_use s) g, seek_past (pages_in_use s) (g ∷ []) k (omega arith), seek_other g k ne)) ∙ sym f
 
   pub sound_taken : IsStore (with_page s g)
   sound_taken = rw (with_missing s g e) (record {
@@ -75,7 +75,7 @@ module _ (s : Store) (h : IsStore s) (g : ℕ) (r : s.used < length s.dir) (e : 
           ∙ get_or_filled_other s.bytes (4096 * s.used) no_bytes 4096 (4096 * i + q % 4096) (inl (omega arith))
           ∙ sym (byte_here s q i f)
       go (missing w' f) (yes eq) =
-          byte_here (with_page s g) q s.used (subst (λ (k : ℕ). found_in (pages_in_use (with_page s g)) k ≡ At s.used) eq found_taken)
+          byte_here (with_page s g) q s.used (subst (λ (k : ℕ). found_in (pages_in_use (with_page s g)) k ≡ Some s.used) eq found_taken)
           ∙ ap (λ (l : List ℕ). get_or l (4096 * s.used + q % 4096) 0) same_bytes
           ∙ get_or_filled s.bytes (4096 * s.used) no_bytes 4096 (q % 4096) (omega (arith, h.sized)) (omega arith)
           ∙ sym (byte_missing s q f)
@@ -83,7 +83,7 @@ module _ (s : Store) (h : IsStore s) (g : ℕ) (r : s.used < length s.dir) (e : 
 
 -- the page has a slot then; other pages stay as they are, and so do all bytes
 module _ (s : Store) (h : IsStore s) (g : ℕ) (r : Room s g) where
-  pub room_missing : found_in (pages_in_use s) g ≡ Nothing → s.used < length s.dir
+  pub room_missing : found_in (pages_in_use s) g ≡ None → s.used < length s.dir
   room_missing e = omega (arith, ap slots_needed e)
 
   pub sound_with : IsStore (with_page s g)
@@ -93,10 +93,10 @@ module _ (s : Store) (h : IsStore s) (g : ℕ) (r : Room s g) where
       go (here i lt q f) = rw (with_here s g i f) h
       go (missing q f) = sound_taken s h g (room_missing f) f q
 
-  pub found_with : (i : ℕ) × (found_in (pages_in_use (with_page s g)) g ≡ At i)
+  pub found_with : (i : ℕ) × (found_in (pages_in_use (with_page s g)) g ≡ Some i)
   found_with = go (place s h g)
     where
-      go : Place s g → (i : ℕ) × (found_in (pages_in_use (with_page s g)) g ≡ At i)
+      go : Place s g → (i : ℕ) × (found_in (pages_in_use (with_page s g)) g ≡ Some i)
       go (here i lt q f) = (i, ap (λ (t : Store). found_in (pages_in_use t) g) (with_here s g i f) ∙ f)
       go (missing q f) = (s.used, found_taken s h g (room_missing f) f q)
 
@@ -114,12 +114,12 @@ module _ (s : Store) (h : IsStore s) (g : ℕ) (r : Room s g) where
       go (here i lt w f) = ap (λ (t : Store). byte_at t q) (with_here s g i f)
       go (missing w f) = byte_taken s h g (room_missing f) f w q
 
-pub put_here : (s : Store) (q i b : ℕ) → found_in (pages_in_use s) (q / 4096) ≡ At i
+pub put_here : (s : Store) (q i b : ℕ) → found_in (pages_in_use s) (q / 4096) ≡ Some i
     → put_byte s q b ≡ store_of s.dir (set s.bytes (4096 * i + q % 4096) b) s.used
 unfolding put_byte stored
 put_here s q i b e = rw (with_here s (q / 4096) i e, (found_seek (pages_in_use s) (q / 4096) i e).0)
 
-pub seek_missing : (s : Store) → IsStore s → (g : ℕ) → found_in (pages_in_use s) g ≡ Nothing → seek (pages_in_use s) g ≡ s.used
+pub seek_missing : (s : Store) → IsStore s → (g : ℕ) → found_in (pages_in_use s) g ≡ None → seek (pages_in_use s) g ≡ s.used
 seek_missing s h g e = go (place s h g)
   where
     go : Place s g → seek (pages_in_use s) g ≡ s.used
@@ -129,7 +129,7 @@ seek_missing s h g e = go (place s h g)
 -- ---- bytes written within one page
 
 -- the page has a slot
-pub written_here : (s : Store) (g i off : ℕ) (f : ℕ → ℕ) (n : ℕ) → found_in (pages_in_use s) g ≡ At i → off + n ≤ 4096
+pub written_here : (s : Store) (g i off : ℕ) (f : ℕ → ℕ) (n : ℕ) → found_in (pages_in_use s) g ≡ Some i → off + n ≤ 4096
     → written s (4096 * g + off) f n ≡ store_of s.dir (filled s.bytes (4096 * i + off) f n) s.used
 unfolding written filled
 written_here s g i off f zero e h = refl
@@ -156,7 +156,7 @@ written_with s h g off f zero r b =
 written_with s h g off f (suc n) r b =
     ap (λ (t : Store). put_byte t (4096 * g + off + suc n) (f (suc n))) (written_with s h g off f n r (omega arith))
 
-pub written_missing : (s : Store) → IsStore s → (g off : ℕ) (f : ℕ → ℕ) (n : ℕ) → found_in (pages_in_use s) g ≡ Nothing
+pub written_missing : (s : Store) → IsStore s → (g off : ℕ) (f : ℕ → ℕ) (n : ℕ) → found_in (pages_in_use s) g ≡ None
     → s.used < length s.dir → 1 ≤ n → off + n ≤ 4096
     → written s (4096 * g + off) f n
     ≡ store_of (set s.dir s.used g) (filled (filled s.bytes (4096 * s.used) no_bytes 4096) (4096 * s.used + off) f n)

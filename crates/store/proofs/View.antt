@@ -1,4 +1,6 @@
 -- The page view: what the code's answers give, and that it shows what reads show, 4,096 bytes of them. By the slot of the page.
+use Rattle.std.specs.Prelude.{Option, Some, None}
+use Rattle.std.proofs.lemmas.Bool.{and_parts}
 use mathlib.Core.Path.{◌≡◌, refl, sym, ap, ◌∙◌}
 use mathlib.Core.Bool.{true, false, ◌&&◌}
 use mathlib.Core.List.{List, [], ◌∷◌}
@@ -8,14 +10,11 @@ use lib.Dec.{eqb}
 use lib.ListN.{length, get_or, drop, take, length-drop}
 use lib.Seq.{get_or-take, get_or-drop, length-take-le}
 use borrow.Author.Tests.{eqb-true}
-use Rattle.utils.proofs.Bools.{and_left, and_right}
 use Rattle.utils.specs.Outcome.{gives, refuses}
 use Rattle.store.specs.Store.{Store, is_store, pages_in_use, found_in, byte_in, byte_at}
 use Rattle.store.specs.View.{all_zero, zero_page, view_in, view_of, view_outcome}
 use Rattle.store.proofs.Read.{sound_facts, slot_held, page_byte}
 use Rattle.store.proofs.Zeros.{zero_at}
-use Rattle.store.specs.declared.Found.{Found}
-use Rattle.store.specs.declared.Found.TheVariants.{At, Nothing}
 
 pub view_bad : (s : Store) (z : List ℕ) (g : ℕ) → is_store s ≡ false → view_of s z g ≡ []
 unfolding view_of
@@ -25,21 +24,21 @@ pub view_odd : (s : Store) (z : List ℕ) (g : ℕ) → is_store s ≡ true → 
 unfolding view_of
 view_odd s z g e e' = rw (e, e')
 
-pub view_in_lem : (s : Store) (z : List ℕ) (g : ℕ) (f : Found) → is_store s ≡ true → zero_page z ≡ true → f ≡ found_in (pages_in_use s) g
+pub view_in_lem : (s : Store) (z : List ℕ) (g : ℕ) (f : Option ℕ) → is_store s ≡ true → zero_page z ≡ true → f ≡ found_in (pages_in_use s) g
     → view_of s z g ≡ view_in s.bytes z f
 unfolding view_of
 view_in_lem s z g f e e' ef = rw (e, e', ef)
 
-pub view_at : (s : Store) (z : List ℕ) (g i : ℕ) (f : Found) → is_store s ≡ true → zero_page z ≡ true
-    → f ≡ found_in (pages_in_use s) g → f ≡ At i
+pub view_at : (s : Store) (z : List ℕ) (g i : ℕ) (f : Option ℕ) → is_store s ≡ true → zero_page z ≡ true
+    → f ≡ found_in (pages_in_use s) g → f ≡ Some i
     → take (4096 * i + 4096 - 4096 * i) (drop (4096 * i) s.bytes) ≡ view_of s z g
 view_at s z g i f e e' ef q =
     let n : 4096 * i + 4096 - 4096 * i ≡ 4096 = omega arith in
-    ap (λ (k : ℕ). take k (drop (4096 * i) s.bytes)) n ∙ sym (view_in_lem s z g (At i) e e' (sym q ∙ ef))
+    ap (λ (k : ℕ). take k (drop (4096 * i) s.bytes)) n ∙ sym (view_in_lem s z g (Some i) e e' (sym q ∙ ef))
 
-pub view_none : (s : Store) (z : List ℕ) (g : ℕ) (f : Found) → is_store s ≡ true → zero_page z ≡ true → f ≡ found_in (pages_in_use s) g
-    → f ≡ Nothing → z ≡ view_of s z g
-view_none s z g f e e' ef q = sym (view_in_lem s z g Nothing e e' (sym q ∙ ef))
+pub view_none : (s : Store) (z : List ℕ) (g : ℕ) (f : Option ℕ) → is_store s ≡ true → zero_page z ≡ true → f ≡ found_in (pages_in_use s) g
+    → f ≡ None → z ≡ view_of s z g
+view_none s z g f e e' ef q = sym (view_in_lem s z g None e e' (sym q ∙ ef))
 
 -- ---- the view shows the page
 -- byte k of an accepted view is the byte that a read of the page gives
@@ -51,20 +50,20 @@ view_law s z g k e e' h =
     ∙ go (found_in (pages_in_use s) g)
     ∙ sym (page_byte s g k h)
   where
-    go : (f : Found) → get_or (view_in s.bytes z f) k 0 ≡ byte_in s.bytes f k
-    go (At i) = get_or-take 4096 (drop (4096 * i) s.bytes) k 0 h ∙ get_or-drop (4096 * i) s.bytes k 0
-    go Nothing = zero_at z (and_right (eqb (length z) 4096) (all_zero z) e') k
+    go : (f : Option ℕ) → get_or (view_in s.bytes z f) k 0 ≡ byte_in s.bytes f k
+    go (Some i) = get_or-take 4096 (drop (4096 * i) s.bytes) k 0 h ∙ get_or-drop (4096 * i) s.bytes k 0
+    go None = zero_at z (and_parts (eqb (length z) 4096) (all_zero z) e').1 k
 
 -- and there are 4,096 of them, so that an accepted view is no empty part
 pub view_length : (s : Store) (z : List ℕ) (g : ℕ) → is_store s ≡ true → zero_page z ≡ true → length (view_of s z g) ≡ 4096
 unfolding zero_page
 view_length s z g e e' = ap length (view_in_lem s z g (found_in (pages_in_use s) g) e e' refl) ∙ go (found_in (pages_in_use s) g) refl
   where
-    go : (f : Found) → found_in (pages_in_use s) g ≡ f → length (view_in s.bytes z f) ≡ 4096
-    go (At i) q =
+    go : (f : Option ℕ) → found_in (pages_in_use s) g ≡ f → length (view_in s.bytes z f) ≡ 4096
+    go (Some i) q =
         let w = slot_held s (sound_facts s e) g i q in
         length-take-le 4096 (drop (4096 * i) s.bytes) (omega (arith, length-drop (4096 * i) s.bytes))
-    go Nothing q = eqb-true (length z) 4096 (and_left (eqb (length z) 4096) (all_zero z) e')
+    go None q = eqb-true (length z) 4096 (and_parts (eqb (length z) 4096) (all_zero z) e').0
 
 -- so a view is refused, with 4, exactly if the store or the lent page is no good
 pub view_refused : (s : Store) (z : List ℕ) (g : ℕ) → is_store s && zero_page z ≡ false → view_outcome (view_of s z g) ≡ refuses 4

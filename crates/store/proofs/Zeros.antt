@@ -9,7 +9,7 @@ use lib.Dec.{eqb}
 use lib.ListN.{length, get_or, drop, drop_of_length-le}
 use lib.Seq.{drop-cons}
 use borrow.Author.Tests.{eq-eqb, ne_eqb, eqb-true}
-use Rattle.utils.proofs.Bools.{and_left, and_right}
+use Rattle.std.proofs.lemmas.Bool.{and_parts}
 use Rattle.store.specs.View.{all_zero, zero_page}
 
 -- one more zero, and a byte that is none
@@ -32,5 +32,5 @@ page_full z b h e = rw (eq-eqb (length z) 4096 h) e
 
 pub zero_at : (z : List ℕ) → all_zero z ≡ true → (k : ℕ) → get_or z k 0 ≡ 0
 zero_at [] e k = refl
-zero_at (x ∷ z) e zero = eqb-true x 0 (and_left (eqb x 0) (all_zero z) e)
-zero_at (x ∷ z) e (suc k) = zero_at z (and_right (eqb x 0) (all_zero z) e) k
+zero_at (x ∷ z) e zero = eqb-true x 0 (and_parts (eqb x 0) (all_zero z) e).0
+zero_at (x ∷ z) e (suc k) = zero_at z (and_parts (eqb x 0) (all_zero z) e).1 k

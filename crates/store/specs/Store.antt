@@ -1,8 +1,7 @@
 -- The store as a value (RULES 3.4 to 3.10): its bytes by physical address, and what writing bytes makes of it.
-use Rattle.std.specs.Prelude.{Bool, true, false, cond, ◌&&◌, List, [], ◌∷◌, ◌++◌, ℕ, zero, suc, ◌+◌, ◌*◌, ◌-◌, ◌/◌, ◌%◌, ltb, leb, eqb, length, get_or, set, take}
+use Rattle.std.specs.Prelude.{Option, Some, None, Bool, true, false, cond, ◌&&◌, List, [], ◌∷◌, ◌++◌}
+use Rattle.std.specs.Prelude.{ℕ, zero, suc, ◌+◌, ◌*◌, ◌-◌, ◌/◌, ◌%◌, ltb, leb, eqb, length, get_or, set, take}
 use Rattle.byte_runs.specs.Runs.{tabulate, filled}
-use Rattle.store.specs.declared.Found.{Found}
-use Rattle.store.specs.declared.Found.TheVariants.{At, Nothing}
 
 -- the bytes of a page (RULES 3.6)
 abbrev pub page_size : ℕ
@@ -37,18 +36,18 @@ unfoldable pub seek : List ℕ → ℕ → ℕ
 seek [] g = 0
 seek (x ∷ xs) g = cond (eqb x g) 0 (suc (seek xs g))
 
-abbrev pub pick_found : Bool → ℕ → Found
-pick_found true i = At i
-pick_found false i = Nothing
+abbrev pub pick_found : Bool → ℕ → Option ℕ
+pick_found true i = Some i
+pick_found false i = None
 
 -- the slot that holds page g, or none; l has the numbers of the slots in use
-unfoldable pub found_in : List ℕ → ℕ → Found
+unfoldable pub found_in : List ℕ → ℕ → Option ℕ
 found_in l g = pick_found (ltb (seek l g) (length l)) (seek l g)
 
 -- byte o of a page whose slot is found, or not: an absent page reads as zeros (RULES 3.8)
-abbrev pub byte_in : List ℕ → Found → ℕ → ℕ
-byte_in b (At i) o = get_or b (page_size * i + o) 0
-byte_in b Nothing o = 0
+abbrev pub byte_in : List ℕ → Option ℕ → ℕ → ℕ
+byte_in b (Some i) o = get_or b (page_size * i + o) 0
+byte_in b None o = 0
 
 -- the byte at physical q, which is byte q % page_size of page q / page_size (RULES 3.6)
 unfoldable pub byte_at : Store → ℕ → ℕ
@@ -63,18 +62,26 @@ read_at s p n = tabulate (bytes_from s p) n
 
 -- page g takes the slot after those in use, cleared (RULES 3.9)
 abbrev pub slot_taken : Store → ℕ → Store
-slot_taken s g = record { dir = set s.dir s.used g; bytes = filled s.bytes (page_size * s.used) (λ (k : ℕ). 0) page_size; used = suc s.used }
+slot_taken s g = record {
+  dir = set s.dir s.used g;
+  bytes = filled s.bytes (page_size * s.used) (λ (k : ℕ). 0) page_size;
+  used = suc s.used;
+}
 
-abbrev pub slot_taken_if : Store → ℕ → Found → Store
-slot_taken_if s g (At i) = s
-slot_taken_if s g Nothing = slot_taken s g
+abbrev pub slot_taken_if : Store → ℕ → Option ℕ → Store
+slot_taken_if s g (Some i) = s
+slot_taken_if s g None = slot_taken s g
 
 unfoldable pub with_page : Store → ℕ → Store
 with_page s g = slot_taken_if s g (found_in (pages_in_use s) g)
 
 -- byte b goes to physical q, whose page has a slot
 unfoldable pub stored : Store → ℕ → ℕ → Store
-stored s q b = record { dir = s.dir; bytes = set s.bytes (page_size * seek (pages_in_use s) (q / page_size) + q % page_size) b; used = s.used }
+stored s q b = record {
+  dir = s.dir;
+  bytes = set s.bytes (page_size * seek (pages_in_use s) (q / page_size) + q % page_size) b;
+  used = s.used;
+}
 
 unfoldable pub put_byte : Store → ℕ → ℕ → Store
 put_byte s q b = stored (with_page s (q / page_size)) q b
@@ -85,8 +92,8 @@ written s p f zero = s
 written s p f (suc n) = put_byte (written s p f n) (p + n) (f n)
 
 -- the slot in which n bytes from physical p on lie, if it is one; l has the numbers of the slots in use
-unfoldable pub slot_of : List ℕ → ℕ → ℕ → Found
-slot_of l p n = cond (leb (p % page_size + n) page_size) (found_in l (p / page_size)) Nothing
+unfoldable pub slot_of : List ℕ → ℕ → ℕ → Option ℕ
+slot_of l p n = cond (leb (p % page_size + n) page_size) (found_in l (p / page_size)) None
 
 -- k pages from page g on
 unfoldable pub pages_from : ℕ → ℕ → List ℕ
@@ -99,9 +106,9 @@ touched p zero = []
 touched p (suc m) = pages_from (p / page_size) (suc ((p + m) / page_size - p / page_size))
 
 -- how many of the pages gs are absent; l has the numbers of the slots in use
-abbrev pub slots_needed : Found → ℕ
-slots_needed (At i) = 0
-slots_needed Nothing = 1
+abbrev pub slots_needed : Option ℕ → ℕ
+slots_needed (Some i) = 0
+slots_needed None = 1
 
 unfoldable pub absent_of : List ℕ → List ℕ → ℕ
 absent_of l [] = 0

@@ -1,22 +1,20 @@
 -- The view of one page (RULES 3.15).
-use Rattle.std.specs.Prelude.{Bool, true, cond, ◌&&◌, List, [], ◌∷◌, ℕ, ◌*◌, eqb, length, take, drop}
+use Rattle.std.specs.Prelude.{Option, Some, None, Bool, cond, ◌&&◌, List, [], ◌∷◌, ℕ, ◌*◌, ◌==◌, eqb, length, take, drop}
+use Rattle.std.specs.List.{list_all}
 use Rattle.utils.specs.Outcome.{Outcome, gives, refuses}
 use Rattle.store.specs.Store.{page_size, Store, is_store, pages_in_use, found_in}
-use Rattle.store.specs.declared.Found.{Found}
-use Rattle.store.specs.declared.Found.TheVariants.{At, Nothing}
 
 -- a lent page of zeros is 4,096 zeros; where this is false, the view is refused with 4 (RULES 7.1)
 abbrev pub all_zero : List ℕ → Bool
-all_zero [] = true
-all_zero (x ∷ xs) = eqb x 0 && all_zero xs
+all_zero z = list_all (λ x. x == 0) z
 
 unfoldable pub zero_page : List ℕ → Bool
 zero_page z = eqb (length z) page_size && all_zero z
 
 -- the bytes of the page's slot, or the lent page of zeros if it is absent
-abbrev pub view_in : List ℕ → List ℕ → Found → List ℕ
-view_in b z (At i) = take page_size (drop (page_size * i) b)
-view_in b z Nothing = z
+abbrev pub view_in : List ℕ → List ℕ → Option ℕ → List ℕ
+view_in b z (Some i) = take page_size (drop (page_size * i) b)
+view_in b z None = z
 
 -- a refused view is an empty part, and no other is (RULES 7.4)
 unfoldable pub view_of : Store → List ℕ → ℕ → List ℕ

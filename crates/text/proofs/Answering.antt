@@ -1,8 +1,9 @@
 -- What a text call answers, from the writer's record: a text that was measured first, and is then written or refused. Also: an answer's
 -- outcome belongs to it alone, so that the contract fixes the answer and the buffer. Assumes nothing.
+use Rattle.std.specs.Prelude.{Option, Some}
 use mathlib.Core.List.{List, [], ◌∷◌, ◌++◌}
 use mathlib.Core.Path.{◌≡◌, sym, ap, ◌∙◌}
-use Prim.Native.Nat.{ℕ, ◌^◌, ◌≤◌, ◌<◌}
+use Prim.Native.Nat.{ℕ, ◌≤◌, ◌<◌}
 use native.Mathlib.Nat.{zero-add}
 use native.Mathlib.Omega.{arith}
 use borrow.Author.Tests.{le-leb, lt-leb}
@@ -17,21 +18,17 @@ use Rattle.instruction_set.proofs.Outcomes.{above_seven}
 use Rattle.instruction_set.specs.declared.ArgumentSize.{ArgumentSize}
 use Rattle.instruction_set.specs.declared.InstructionArgument.{InstructionArgument}
 use Rattle.instruction_set.specs.declared.InstructionArguments.{InstructionArguments}
-use Rattle.instruction_set.specs.declared.SomeArgument.{SomeArgument}
-use Rattle.instruction_set.specs.declared.SomeArgument.TheVariants.{Present}
 use Rattle.text.specs.Answers.{TextOrRefusal, text_is, refused_with, TextWritten}
 use Rattle.text.specs.Arguments.{list_answer, at_size, arguments_answer, arguments_text}
-use Rattle.text_pieces.proofs.Writing.{from_zero}
 use Rattle.text_pieces.specs.Put.{TextPut}
 
--- n was measured over another buffer, d₀; a bound on the text's length says that the count went no further than words do
-module _ {m n : ℕ} {d₀ d₁ d t : List ℕ} (p : TextPut m d₀ 0 t d₁ n) (b : m < 2 ^ 64) where
+-- n was measured, before the writer's record q
+module _ {n : ℕ} {d t : List ℕ} (z : n ≡ length t) where
   pub too_long : length d < n → TextWritten (text_is t) d d (refuses 7)
-  too_long h = let e = lt-leb (length t) (length d) (omega (arith, from_zero b p)) in record { answer = simp e; bytes = simp e }
+  too_long h = let e = lt-leb (length t) (length d) (omega arith) in record { answer = simp e; bytes = simp e }
 
   pub in_room : {k r : ℕ} {d' : List ℕ} → n ≤ length d → TextPut k d 0 t d' r → TextWritten (text_is t) d d' (gives (n ∷ []))
   in_room h q =
-      let z = from_zero b p in
       let e = le-leb (length t) (length d) (omega arith) in
       record {
         answer = simp e (ap (λ (k : ℕ). gives (k ∷ [])) z);
@@ -45,13 +42,14 @@ pub nothing_said : {d : List ℕ} → TextWritten (text_is []) d d (gives (0 ∷
 nothing_said {d} = record { answer = simp (leb-zero (length d)); bytes = simp (leb-zero (length d)) }
 
 -- the text of arguments whose first is there, at the size that is selected
-pub by_size : (a : InstructionArguments) {x : InstructionArgument} {o : Outcome ArgumentSize} → a.first_argument ≡ Present x
+pub by_size : (a : InstructionArguments) {x : InstructionArgument} {o : Outcome ArgumentSize} → a.first_argument ≡ Some x
     → o ≡ selected_size a
     → arguments_text a ≡ at_size o (λ s. list_answer s x a.second_argument)
 by_size a {x} {o} p q =
-    ap (λ (f : SomeArgument). arguments_answer f a.second_argument (selected_size a)) p
+    ap (λ (f : Option InstructionArgument). arguments_answer f a.second_argument (selected_size a)) p
     ∙ ap (λ (z : Outcome ArgumentSize). at_size z (λ s. list_answer s x a.second_argument)) (sym q)
 
 -- and where none can be, its refusal
-pub size_refused : (r : ArgumentsRefusal) (f : ArgumentSize → TextOrRefusal) → at_size (refuses (arguments_number r)) f ≡ refused_with (arguments_number r)
+pub size_refused : (r : ArgumentsRefusal) (f : ArgumentSize → TextOrRefusal)
+    → at_size (refuses (arguments_number r)) f ≡ refused_with (arguments_number r)
 size_refused r f = on_refused (arguments_number r) [] f (refused_with (arguments_number r)) (omega (arith, above_seven r))

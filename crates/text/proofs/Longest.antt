@@ -1,5 +1,6 @@
 -- How long the texts of operands can be (RULES 6.9; the state's bound is `state_most`, in text_state): an operand's bound, by cases on
 -- what is told. Assumes nothing.
+use Rattle.std.specs.Prelude.{Option, Some, None}
 use mathlib.Core.Bool.{Bool, true, false}
 use mathlib.Core.List.{List, [], ◌∷◌}
 use Prim.Native.Nat.{ℕ, ◌≤◌}
@@ -11,8 +12,6 @@ use Rattle.instruction_set.specs.Operands.{lacks_scale, some_lacks_scale}
 use Rattle.instruction_set.specs.declared.ArgumentSize.{ArgumentSize}
 use Rattle.instruction_set.specs.declared.InstructionArgument.{InstructionArgument}
 use Rattle.instruction_set.specs.declared.InstructionArguments.{InstructionArguments}
-use Rattle.instruction_set.specs.declared.SomeArgument.{SomeArgument}
-use Rattle.instruction_set.specs.declared.SomeArgument.TheVariants as some
 use Rattle.text_operands.proofs.Longest.{Narrow, SomeNarrow, list_most}
 use Rattle.text_operands.specs.Operands.{list_text}
 use Rattle.text.specs.Answers.{TextOrRefusal, text_is, refused_with}
@@ -27,10 +26,12 @@ unless_most : (b : Bool) (o : TextOrRefusal) {m : ℕ} → length_of o ≤ m →
 unless_most true o h = omega arith
 unless_most false o h = h
 
-told_most : (size : ArgumentSize) (x : InstructionArgument) (y : SomeArgument) → Narrow x → SomeNarrow y → length_of (list_answer size x y) ≤ 57
-told_most size x y n m = unless_most (lacks_scale x) _ (unless_most (some_lacks_scale y) (text_is (list_text size x y)) (list_most size x y n m))
+told_most : (size : ArgumentSize) (x : InstructionArgument) (y : Option InstructionArgument) → Narrow x → SomeNarrow y
+    → length_of (list_answer size x y) ≤ 57
+told_most size x y n m =
+    unless_most (lacks_scale x) _ (unless_most (some_lacks_scale y) (text_is (list_text size x y)) (list_most size x y n m))
 
-sized_most : (o : Outcome ArgumentSize) (x : InstructionArgument) (y : SomeArgument) → Narrow x → SomeNarrow y
+sized_most : (o : Outcome ArgumentSize) (x : InstructionArgument) (y : Option InstructionArgument) → Narrow x → SomeNarrow y
     → length_of (at_size o (λ s. list_answer s x y)) ≤ 57
 sized_most o x y n m = go (accepted o) o.values
   where
@@ -43,7 +44,8 @@ pub arguments_most : (a : InstructionArguments) → SomeNarrow a.first_argument 
     → length_of (arguments_text a) ≤ 57
 arguments_most a n m = go a.first_argument a.second_argument (selected_size a) n m
   where
-    go : (f g : SomeArgument) (o : Outcome ArgumentSize) → SomeNarrow f → SomeNarrow g → length_of (arguments_answer f g o) ≤ 57
-    go some.Absent some.Absent o n m = omega arith
-    go some.Absent (some.Present y) o n m = omega arith
-    go (some.Present x) y o n m = sized_most o x y n m
+    go : (f g : Option InstructionArgument) (o : Outcome ArgumentSize) → SomeNarrow f → SomeNarrow g
+        → length_of (arguments_answer f g o) ≤ 57
+    go None None o n m = omega arith
+    go None (Some y) o n m = omega arith
+    go (Some x) y o n m = sized_most o x y n m

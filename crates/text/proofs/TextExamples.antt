@@ -1,4 +1,5 @@
 -- The examples of operands' texts (RULES 10.14), and the longest (RULES 6.9), computed. Assumes nothing.
+use Rattle.std.specs.Prelude.{Some, None}
 use mathlib.Core.Bool.{false}
 use mathlib.Core.List.{[], ◌∷◌}
 use mathlib.Core.Path.{◌≡◌, refl}
@@ -10,11 +11,6 @@ use Rattle.instruction_set.specs.declared.InstructionArgument.{InstructionArgume
 use Rattle.instruction_set.specs.declared.InstructionArgument.TheVariants.{Immediate, EffectiveAddress}
 use Rattle.instruction_set.specs.declared.InstructionArguments.{InstructionArguments}
 use Rattle.instruction_set.specs.declared.Register.TheVariants.{RBP, RCX, R10D, R11D}
-use Rattle.instruction_set.specs.declared.SomeArgument.TheVariants as some
-use Rattle.instruction_set.specs.declared.SomeOpcode.TheVariants as opcode
-use Rattle.instruction_set.specs.declared.SomeRegister.TheVariants as reg
-use Rattle.instruction_set.specs.declared.SomeScale.TheVariants as scale
-use Rattle.instruction_set.specs.declared.SomeSize.TheVariants as size
 use Rattle.text_pieces.specs.Ascii.{ascii}
 use Rattle.text_pieces.specs.Hex.{hex_digits}
 use Rattle.text_names.specs.Names.{name_of}
@@ -23,26 +19,31 @@ use Rattle.text.specs.Arguments.{operand_answer, arguments_text}
 use Rattle.text.proofs.Longest.{length_of}
 
 -- `-0x8(%rbp)`; -1 at Bit8 `$0xff`; `0x0(,%rcx,8)`; lowest displacement alone `-0x80000000`; and an index without a scale
-pub examples : operand_answer Bit64 (EffectiveAddress (reg.Present RBP) reg.Absent scale.Absent (negsuc 7))
+pub examples : operand_answer Bit64 (EffectiveAddress (Some RBP) None None (negsuc 7))
     ∷ operand_answer Bit8 (Immediate 18446744073709551615)
-    ∷ operand_answer Bit64 (EffectiveAddress reg.Absent (reg.Present RCX) (scale.Present 8) (pos 0))
-    ∷ operand_answer Bit64 (EffectiveAddress reg.Absent reg.Absent scale.Absent (negsuc 2147483647))
-    ∷ operand_answer Bit64 (EffectiveAddress reg.Absent (reg.Present RCX) scale.Absent (pos 0))
+    ∷ operand_answer Bit64 (EffectiveAddress None (Some RCX) (Some 8) (pos 0))
+    ∷ operand_answer Bit64 (EffectiveAddress None None None (negsuc 2147483647))
+    ∷ operand_answer Bit64 (EffectiveAddress None (Some RCX) None (pos 0))
     ∷ []
-    ≡ text_is (ascii "-0x8(%rbp)") ∷ text_is (ascii "$0xff") ∷ text_is (ascii "0x0(,%rcx,8)") ∷ text_is (ascii "-0x80000000") ∷ refused_with 3 ∷ []
+    ≡ text_is (ascii "-0x8(%rbp)")
+    ∷ text_is (ascii "$0xff")
+    ∷ text_is (ascii "0x0(,%rcx,8)")
+    ∷ text_is (ascii "-0x80000000")
+    ∷ refused_with 3
+    ∷ []
 unfolding cut count_leading_zeros hex_digits name_of
 examples = refl
 
 -- two operands of 28 bytes each
 abbrev widest : InstructionArgument
-widest = EffectiveAddress (reg.Present R10D) (reg.Present R11D) (scale.Present 255) (negsuc 2147483647)
+widest = EffectiveAddress (Some R10D) (Some R11D) (Some 255) (negsuc 2147483647)
 
 abbrev longest : InstructionArguments
 longest = record {
-  first_argument = some.Present widest;
-  second_argument = some.Present widest;
-  opcode = opcode.Absent;
-  explicit_size = size.Present Bit64;
+  first_argument = Some widest;
+  second_argument = Some widest;
+  opcode = None;
+  explicit_size = Some Bit64;
   repeat_equal = false;
   repeat_not_equal = false;
 }

@@ -1,8 +1,5 @@
 -- The registers' names: one row to each register, the name in lowercase (RULES 6.3).
-use Rattle.std.specs.Prelude.{cond, List, [], ◌∷◌, ◌++◌, ◌≡◌, ℕ, zero, suc, ◌+◌, ◌*◌, ◌<◌, eqb, get_or}
-use Rattle.instruction_set.specs.Registers.{parent_of, part_of}
-use Rattle.instruction_set.specs.declared.Part.{Part}
-use Rattle.instruction_set.specs.declared.Part.TheVariants.{Whole, Low32, Low16, Low8, High8, Nothing}
+use Rattle.std.specs.Prelude.{List, ◌++◌, ℕ}
 use Rattle.instruction_set.specs.declared.Register.{Register}
 use Rattle.instruction_set.specs.declared.Register.TheVariants.{RAX, RBX, RCX, RDX, RSP, RBP, RSI, RDI, R8, R9, R10, R11, R12, R13, R14}
 use Rattle.instruction_set.specs.declared.Register.TheVariants.{R15, RIP, CR0, CR2, CR3, CR4, CR8, EAX, EBX, ECX, EDX, ESP, EBP, ESI}
@@ -97,36 +94,3 @@ name_of GS = ascii "gs"
 -- a register as operand text (RULES 6.3)
 abbrev pub register_text : Register → List ℕ
 register_text r = ascii "%" ++ name_of r
-
--- ---- what only private functions' contracts cite
--- how the code holds the names: 80 cells of four bytes, with spaces after the name; by part, then by parent; the segments last
-unfoldable pub cells : List ℕ
-cells =
-    ascii "rax rbx rcx rdx rsp rbp rsi rdi r8  r9  r10 r11 r12 r13 r14 r15 rip cr0 cr2 cr3 cr4 cr8 "
-    ++ ascii "eax ebx ecx edx esp ebp esi edi r8d r9d r10dr11dr12dr13dr14dr15d"
-    ++ ascii "ax  bx  cx  dx  sp  bp  si  di  r8w r9w r10wr11wr12wr13wr14wr15w"
-    ++ ascii "al  bl  cl  dl  spl bpl sil dil r8b r9b r10br11br12br13br14br15b"
-    ++ ascii "ah  bh  ch  dh  "
-    ++ ascii "es  cs  ss  ds  fs  gs  "
-
--- at most m bytes from byte i on, up to a space
-unfoldable pub name_from : ℕ → ℕ → List ℕ
-name_from zero i = []
-name_from (suc m) i = cond (eqb (get_or cells i 0) 32) [] (get_or cells i 0 ∷ name_from m (suc i))
-
-abbrev pub name_at : ℕ → List ℕ
-name_at n = name_from 4 (4 * n)
-
--- the cell at which a part's names begin
-abbrev pub start_of : Part → ℕ
-start_of Whole = 0
-start_of Low32 = 22
-start_of Low16 = 38
-start_of Low8 = 54
-start_of High8 = 70
-start_of Nothing = 74
-
--- n cells after that of its part and parent stands the name of r
-pub record SegmentIndex (r : Register) (n : ℕ) : Type 0 where
-  pub spells : name_at (start_of (part_of r) + parent_of r + n) ≡ name_of r
-  pub within : start_of (part_of r) + parent_of r + n < 80

@@ -1,7 +1,8 @@
 -- How long the text of operands can be: a text's bound is the sum of those of its parts. A displacement is taken as one of 32 bits, which
 -- every operand of the code has. Assumes nothing.
+use Rattle.std.specs.Prelude.{Option, Some, None}
 use mathlib.Core.List.{◌++◌}
-use Prim.Native.Nat.{suc, ◌*◌, ◌≤◌}
+use Prim.Native.Nat.{ℕ, suc, ◌*◌, ◌≤◌}
 use native.Mathlib.Omega.{arith}
 use lib.IntN.{ℤ, pos, negsuc}
 use lib.ListN.{length, length-append}
@@ -13,12 +14,6 @@ use Rattle.instruction_set.specs.declared.ArgumentSize.{ArgumentSize}
 use Rattle.instruction_set.specs.declared.InstructionArgument.{InstructionArgument}
 use Rattle.instruction_set.specs.declared.InstructionArgument.TheVariants as arg
 use Rattle.instruction_set.specs.declared.Register.{Register}
-use Rattle.instruction_set.specs.declared.SomeArgument.{SomeArgument}
-use Rattle.instruction_set.specs.declared.SomeArgument.TheVariants as some
-use Rattle.instruction_set.specs.declared.SomeRegister.{SomeRegister}
-use Rattle.instruction_set.specs.declared.SomeRegister.TheVariants as reg
-use Rattle.instruction_set.specs.declared.SomeScale.{SomeScale}
-use Rattle.instruction_set.specs.declared.SomeScale.TheVariants as scale
 use Rattle.text_pieces.proofs.Longest.{joined, hex_most, decimal_most}
 use Rattle.text_pieces.specs.Ascii.{ascii}
 use Rattle.text_pieces.specs.Hex.{hex_text}
@@ -31,23 +26,23 @@ displacement_most : (d : ℤ) → SFits w32 d → length (displacement_text d) �
 displacement_most (pos n) f = let h : length (hex_text n) ≤ 8 = eight f in omega arith
 displacement_most (negsuc n) f = let h : length (hex_text (suc n)) ≤ 8 = eight f in omega arith
 
-base_most : (b : SomeRegister) → length (base_text b) ≤ 5
-base_most reg.Absent = omega arith
-base_most (reg.Present r) = register_most r
+base_most : (b : Option Register) → length (base_text b) ≤ 5
+base_most None = omega arith
+base_most (Some r) = register_most r
 
-scale_most : (s : SomeScale) → length (scale_text s) ≤ 3
-scale_most scale.Absent = omega arith
-scale_most (scale.Present x) = decimal_most x
+scale_most : (s : Option ℕ) → length (scale_text s) ≤ 3
+scale_most None = omega arith
+scale_most (Some x) = decimal_most x
 
-full_most : (b : SomeRegister) (i : Register) (s : SomeScale)
+full_most : (b : Option Register) (i : Register) (s : Option ℕ)
     → length (ascii "(" ++ base_text b ++ ascii "," ++ register_text i ++ ascii "," ++ scale_text s ++ ascii ")") ≤ 17
 full_most b i s = simp length-append (omega (arith, base_most b, register_most i, scale_most s))
 
-address_most : (b i : SomeRegister) (s : SomeScale) → length (address_text b i s) ≤ 17
-address_most reg.Absent reg.Absent s = omega arith
-address_most (reg.Present b) reg.Absent s = simp length-append (omega (arith, register_most b))
-address_most reg.Absent (reg.Present i) s = full_most reg.Absent i s
-address_most (reg.Present b) (reg.Present i) s = full_most (reg.Present b) i s
+address_most : (b i : Option Register) (s : Option ℕ) → length (address_text b i s) ≤ 17
+address_most None None s = omega arith
+address_most (Some b) None s = simp length-append (omega (arith, register_most b))
+address_most None (Some i) s = full_most None i s
+address_most (Some b) (Some i) s = full_most (Some b) i s
 
 -- the displacement is one of 32 bits
 abbrev pub Narrow : InstructionArgument → Type 0
@@ -55,9 +50,9 @@ Narrow (arg.Immediate v) = Unit
 Narrow (arg.Register r) = Unit
 Narrow (arg.EffectiveAddress b i s d) = SFits w32 d
 
-abbrev pub SomeNarrow : SomeArgument → Type 0
-SomeNarrow some.Absent = Unit
-SomeNarrow (some.Present x) = Narrow x
+abbrev pub SomeNarrow : Option InstructionArgument → Type 0
+SomeNarrow None = Unit
+SomeNarrow (Some x) = Narrow x
 
 pub operand_most : (size : ArgumentSize) (x : InstructionArgument) → Narrow x → length (operand_text size x) ≤ 28
 operand_most size (arg.Immediate v) n = let h = hex_most (cut v 0 (8 * bytes_of size)) in omega arith
@@ -65,7 +60,7 @@ operand_most size (arg.Register r) n = let h = register_most r in omega arith
 operand_most size (arg.EffectiveAddress b i s d) n =
     joined 11 17 (displacement_text d) (address_text b i s) (displacement_most d n) (address_most b i s)
 
-pub list_most : (size : ArgumentSize) (x : InstructionArgument) (y : SomeArgument) → Narrow x → SomeNarrow y
+pub list_most : (size : ArgumentSize) (x : InstructionArgument) (y : Option InstructionArgument) → Narrow x → SomeNarrow y
     → length (list_text size x y) ≤ 57
-list_most size x some.Absent n m = let h = operand_most size x n in omega arith
-list_most size x (some.Present y) n m = simp length-append (omega (arith, operand_most size x n, operand_most size y m))
+list_most size x None n m = let h = operand_most size x n in omega arith
+list_most size x (Some y) n m = simp length-append (omega (arith, operand_most size x n, operand_most size y m))

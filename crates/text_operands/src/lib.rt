@@ -10,9 +10,7 @@ ghost use Rattle.text_operands.specs.Operands.{displacement_text, base_text, sca
 ghost use Rattle.instruction_set.specs.Operands.{lacks_scale, some_lacks_scale};
 ghost use Rattle.text_pieces.specs.Put.{TextPut};
 
-use instruction_set::{
-    ArgumentSize, InstructionArgument, Register, SomeArgument, SomeRegister, SomeScale,
-};
+use instruction_set::{ArgumentSize, InstructionArgument, Register};
 use text_names::put_name;
 use text_pieces::{put_byte, put_bytes, put_decimal, put_hex};
 
@@ -26,29 +24,28 @@ fn put_register(out: &mut [u8], at: usize, register: Register) -> usize
 fn put_displacement(out: &mut [u8], at: usize, d: i32) -> usize
     ensures { TextPut 11 out.old at (displacement_text d) out.new result }
 {
-    if d < 0 {
-        let o = put_bytes(out, at, b"-0x");
-        return put_hex(out, o, utils::magnitude(d));
-    }
-    let o = put_bytes(out, at, b"0x");
+    let prefix = if d < 0 { "-0x" } else { "0x" };
+    let o = put_bytes(out, at, prefix.as_bytes());
     put_hex(out, o, utils::magnitude(d))
 }
 
-fn put_base(out: &mut [u8], at: usize, base: SomeRegister) -> usize
+// This and the next are two short matches. By `base.map_or(at, |b| ..)` the goal `returns` stays open: nothing says that a closure that is
+// not called leaves the buffer as it was. One function over both would take the writer of what is there as a closure, and be longer.
+fn put_base(out: &mut [u8], at: usize, base: Option<Register>) -> usize
     ensures { TextPut 5 out.old at (base_text base) out.new result }
 {
     match base {
-        SomeRegister::Absent => at,
-        SomeRegister::Present(b) => put_register(out, at, b),
+        None => at,
+        Some(b) => put_register(out, at, b),
     }
 }
 
-fn put_scale(out: &mut [u8], at: usize, scale: SomeScale) -> usize
+fn put_scale(out: &mut [u8], at: usize, scale: Option<u8>) -> usize
     ensures { TextPut 3 out.old at (scale_text scale) out.new result }
 {
     match scale {
-        SomeScale::Absent => at,
-        SomeScale::Present(s) => put_decimal(out, at, s),
+        None => at,
+        Some(s) => put_decimal(out, at, s),
     }
 }
 
@@ -56,22 +53,20 @@ fn put_scale(out: &mut [u8], at: usize, scale: SomeScale) -> usize
 fn put_address(
     out: &mut [u8],
     at: usize,
-    base: SomeRegister,
-    index: SomeRegister,
-    scale: SomeScale,
+    base: Option<Register>,
+    index: Option<Register>,
+    scale: Option<u8>,
 ) -> usize
     ensures { TextPut 17 out.old at (address_text base index scale) out.new result }
 {
-    match index {
-        SomeRegister::Absent => match base {
-            SomeRegister::Absent => at,
-            SomeRegister::Present(b) => {
-                let o1 = put_byte(out, at, b'(');
-                let o2 = put_register(out, o1, b);
-                put_byte(out, o2, b')')
-            }
-        },
-        SomeRegister::Present(i) => {
+    match (index, base) {
+        (None, None) => at,
+        (None, Some(b)) => {
+            let o1 = put_byte(out, at, b'(');
+            let o2 = put_register(out, o1, b);
+            put_byte(out, o2, b')')
+        }
+        (Some(i), _) => {
             let o1 = put_byte(out, at, b'(');
             let o2 = put_base(out, o1, base);
             let o3 = put_byte(out, o2, b',');
@@ -108,15 +103,15 @@ fn put_operand(out: &mut [u8], at: usize, x: InstructionArgument, size: Argument
 pub fn put_list(
     out: &mut [u8],
     first: InstructionArgument,
-    second: SomeArgument,
+    second: Option<InstructionArgument>,
     size: ArgumentSize,
 ) -> usize
     ensures { TextPut 57 out.old 0 (list_text size first second) out.new result }
 {
     let o = put_operand(out, 0, first, size);
     match second {
-        SomeArgument::Absent => o,
-        SomeArgument::Present(y) => {
+        None => o,
+        Some(y) => {
             let p = put_byte(out, o, b',');
             put_operand(out, p, y, size)
         }
@@ -127,25 +122,19 @@ pub fn put_list(
 pub fn lacks_scale(x: InstructionArgument) -> bool
     ensures { result ≡ lacks_scale x }
 {
-    match x {
-        InstructionArgument::Immediate { .. } => false,
-        InstructionArgument::Register { .. } => false,
-        InstructionArgument::EffectiveAddress { index, scale, .. } => match index {
-            SomeRegister::Absent => false,
-            SomeRegister::Present(_) => match scale {
-                SomeScale::Absent => true,
-                SomeScale::Present(_) => false,
-            },
-        },
-    }
+    matches!(
+        x,
+        InstructionArgument::EffectiveAddress {
+            index: Some(_),
+            scale: None,
+            ..
+        }
+    )
 }
 
 // The same of an operand that may be absent: then it is not so.
-pub fn some_lacks_scale(x: SomeArgument) -> bool
+pub fn some_lacks_scale(x: Option<InstructionArgument>) -> bool
     ensures { result ≡ some_lacks_scale x }
 {
-    match x {
-        SomeArgument::Absent => false,
-        SomeArgument::Present(y) => lacks_scale(y),
-    }
+    x.is_some_and(lacks_scale)
 }

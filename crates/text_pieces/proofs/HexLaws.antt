@@ -1,17 +1,18 @@
 -- Hex text belongs to its number alone: read back digit by digit it gives the number; and it has as many digits as the number needs.
 -- Assumes nothing.
-use mathlib.Core.Path.{◌≡◌, refl, sym, ap, ◌∙◌}
-use mathlib.Core.Logic.{⊎_elim, ◌⊎◌, inl, inr}
-use mathlib.Core.Bool.{Bool, true, false, cond}
+use Rattle.std.proofs.lemmas.Bool.{cases_lt}
+use mathlib.Core.Path.{◌≡◌, sym, ap, ◌∙◌}
+use mathlib.Core.Logic.{⊎_elim}
+use mathlib.Core.Bool.{cond}
 use mathlib.Core.List.{List, [], ◌∷◌}
 use Prim.Native.Nat.{ℕ, zero, suc, ◌+◌, ◌-◌, ◌*◌, ◌/◌, ◌%◌, ◌^◌, ◌≤◌, ◌<◌}
 use native.Mathlib.Nat.{add-mul, mul_assoc, add_assoc, mod-lt, eq-zero-or-pos, lt_of_lt_of_le, le_trans, mod-eq_of_lt, mod-one, lt_irrefl}
 use native.Mathlib.Nat.{mul-one, add-zero, zero-mul, zero-add}
 use native.Mathlib.Omega.{arith}
-use borrow.Author.Tests.{lt-ltb, le-ltb, ltb-true, ltb-false}
 use lib.Dec.{ltb}
 use lib.Pow.{pow-add, pow_mono, mod-pow-add}
 use lib.Count.{leading_of_zero, leading_top}
+use Rattle.std.proofs.lemmas.Bool.Decides.{nat_tests}
 use Rattle.text_pieces.specs.Hex.{hex_byte, hex_digits, digits_of, hex_text}
 
 -- the digit of a byte, and the number of a text of digits, highest first, after those of acc
@@ -22,19 +23,8 @@ unfoldable pub read_hex : ℕ → List ℕ → ℕ
 read_hex acc [] = acc
 read_hex acc (b ∷ t) = read_hex (acc * 16 + digit_of b) t
 
-pub lt_or_le : (a b : ℕ) → (a < b) ⊎ (b ≤ a)
-lt_or_le a b = go (ltb a b) refl
-  where
-    go : (t : Bool) → ltb a b ≡ t → (a < b) ⊎ (b ≤ a)
-    go true e = inl (ltb-true a b e)
-    go false e = inr (ltb-false a b e)
-
 pub digit_back : (d : ℕ) → d < 16 → digit_of (hex_byte d) ≡ d
-digit_back d h =
-    ⊎_elim
-    (λ (l : d < 10). let k : 48 + d < 58 = omega arith in simp (lt-ltb d 10 l, lt-ltb (48 + d) 58 k) (omega arith))
-    (λ (g : 10 ≤ d). let k : 58 ≤ 87 + d = omega arith in simp (le-ltb d 10 g, le-ltb (87 + d) 58 k) (omega arith))
-    (lt_or_le d 10)
+digit_back d h = grind (arith, nat_tests)
 
 pub digits_back : (n acc x : ℕ) → read_hex acc (hex_digits n x) ≡ acc * 2 ^ (4 * n) + x % 2 ^ (4 * n)
 unfolding hex_digits read_hex
@@ -74,7 +64,7 @@ digits_under k x p m h =
         (λ (l : k < digits_of x). let e : 4 * k ≤ 4 * (digits_of x - 1) = omega arith in
         absurd (lt_irrefl x (lt_of_lt_of_le h (le_trans (pow_mono e) b))))
         (λ (g : digits_of x ≤ k). g)
-        (lt_or_le k (digits_of x))
+        (cases_lt k (digits_of x))
 
 -- read back, the text of x is x
 pub hex_back : (x : ℕ) → x < 2 ^ 64 → read_hex 0 (hex_text x) ≡ x

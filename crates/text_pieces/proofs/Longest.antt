@@ -1,12 +1,12 @@
 -- How long the pieces can be: a branch's bound is that of the longer side, a sum's the sum of the bounds. Assumes nothing.
 use mathlib.Core.Bool.{Bool, true, false, cond}
-use mathlib.Core.List.{List, [], ◌∷◌, ◌++◌}
+use mathlib.Core.List.{List, ◌++◌}
 use mathlib.Core.Path.{◌≡◌, refl, ap}
-use Prim.Native.Nat.{ℕ, zero, suc, ◌+◌, ◌/◌, ◌%◌, ◌≤◌}
+use Prim.Native.Nat.{ℕ, zero, suc, ◌+◌, ◌≤◌}
 use native.Mathlib.Omega.{arith}
-use lib.Dec.{ltb}
 use lib.ListN.{length, length-append}
-use Rattle.text_pieces.specs.Ascii.{digit, decimal_text}
+use Rattle.std.proofs.lemmas.Bool.Decides.{nat_tests}
+use Rattle.text_pieces.specs.Ascii.{decimal_text}
 use Rattle.text_pieces.specs.Hex.{hex_digits, hex_text}
 use Rattle.text_pieces.proofs.HexLaws.{digits_most}
 
@@ -28,8 +28,4 @@ pub hex_most : (x : ℕ) → length (hex_text x) ≤ 16
 hex_most x = rw length_digits (digits_most x)
 
 pub decimal_most : (x : ℕ) → length (decimal_text x) ≤ 3
-decimal_most x =
-    let ten = cond (ltb x 100) (digit (x / 10) ∷ digit (x % 10) ∷ []) (digit (x / 100) ∷ digit (x / 10 % 10) ∷ digit (x % 10) ∷ []) in
-    either 3 (ltb x 10) (digit x ∷ []) ten (omega arith)
-    (either 3 (ltb x 100) (digit (x / 10) ∷ digit (x % 10) ∷ []) (digit (x / 100) ∷ digit (x / 10 % 10) ∷ digit (x % 10) ∷ [])
-    (omega arith) (omega arith))
+decimal_most x = grind (arith, nat_tests)

@@ -1,5 +1,6 @@
 -- Laws of writing text piece by piece: two pieces one after the other, and a loop that writes what is left. Where an offset can go no
 -- further, what is written there or beyond lies past the buffer's end and changes nothing. Assumes nothing.
+use Rattle.std.proofs.lemmas.Bool.{cases_lt}
 use mathlib.Core.Path.{◌≡◌, refl, sym, ap, ◌∙◌}
 use mathlib.Core.Logic.{⊎_elim}
 use mathlib.Core.List.{List, [], ◌∷◌, ◌++◌}
@@ -10,7 +11,6 @@ use lib.ListN.{length, set, replicate, length-append}
 use lib.Seq.{sets, set_out, length-sets}
 use Rattle.text_pieces.specs.Hex.{hex_byte, hex_digits}
 use Rattle.text_pieces.specs.Put.{TextPut, offset_after}
-use Rattle.text_pieces.proofs.HexLaws.{lt_or_le}
 
 -- ---- offsets
 pub place_near : (at n : ℕ) → at + n < 2 ^ 64 → offset_after at n ≡ at + n
@@ -65,7 +65,7 @@ sets_place d at n t h =
     (λ (l : at + n < 2 ^ 64). ap (λ (k : ℕ). sets d k t) (place_near at n l))
     (λ (g : 2 ^ 64 ≤ at + n). let f = place_far at n g in sets_out d (offset_after at n) t (omega arith)
     ∙ sym (sets_out d (at + n) t (omega arith)))
-    (lt_or_le (at + n) (2 ^ 64))
+    (cases_lt (at + n) (2 ^ 64))
 
 -- t is written after s
 on_top : {m at r : ℕ} {d d' s : List ℕ} (t : List ℕ) → TextPut m d at s d' r → sets d' r t ≡ sets d at (s ++ t)
@@ -76,7 +76,8 @@ on_top {m} {at} {r} {d} {d'} {s} t p =
     ∙ sets_append d at s t
 
 -- and its offset is that after both
-on_top_next : {m at r : ℕ} {d d' s : List ℕ} (t : List ℕ) → TextPut m d at s d' r → offset_after r (length t) ≡ offset_after at (length (s ++ t))
+on_top_next : {m at r : ℕ} {d d' s : List ℕ} (t : List ℕ) → TextPut m d at s d' r
+    → offset_after r (length t) ≡ offset_after at (length (s ++ t))
 on_top_next {at = at} {s = s} t p =
     ap (λ (k : ℕ). offset_after k (length t)) p.next ∙ place_more at (length s) (length t) ∙ ap (offset_after at) (sym (length-append s t))
 

@@ -3,9 +3,10 @@
 // It carries RULES 6.7 and 6.8.
 #![tactic(auto)]
 
-ghost use Rattle.std.specs.Prelude.{◌++◌, ◌≡◌, ◌+◌, ◌-◌, ◌^◌, ◌≤◌, ◌<◌, get_or};
+ghost use Rattle.std.specs.Prelude.{◌++◌, ◌≡◌, ◌+◌, ◌^◌, ◌≤◌, ◌<◌, MatchOption};
+ghost use Rattle.instruction_set.specs.Registers.{parent_of};
 ghost use Rattle.instruction_set.specs.declared.Register.TheVariants.{RAX};
-ghost use Rattle.text_state.specs.Lines.{padded, line_of, lines_after, others, control_text, utf8, event_text};
+ghost use Rattle.text_state.specs.Lines.{padded, line_of, lines_after, others, label_of, control_text, utf8, event_text};
 ghost use Rattle.text_pieces.specs.Ascii.{ascii};
 ghost use Rattle.text_names.specs.Names.{name_of};
 ghost use Rattle.text_pieces.specs.Put.{TextPut};
@@ -35,19 +36,6 @@ const OTHERS: [Register; 16] = [
     Register::RIP,
 ];
 
-// CR0 is the first parent whose write gives an event (RULES 2.7); the digits of the labels of CR0, CR2, CR3, CR4 and CR8, as in the Rust
-// (RULES 6.8).
-const CR0: usize = 17;
-
-const LABELS: [u8; 5] = *b"02345";
-
-fn other_at(k: usize) -> Register
-    requires { k < 16 }
-    ensures { result ≡ get_or others k RAX }
-{
-    OTHERS[k]
-}
-
 // The name, and spaces up to column 15. The name's length is the distance of the two offsets, where neither is the last one.
 fn put_padded(out: &mut [u8], at: usize, register: Register) -> usize
     requires { at + 15 < 2 ^ 64 }
@@ -57,9 +45,11 @@ fn put_padded(out: &mut [u8], at: usize, register: Register) -> usize
     put_spaces(out, o, 15 - (o - at))
 }
 
-fn put_line(out: &mut [u8], at: usize, regs: [u64; 22], register: Register) -> usize
+#[tactic(auto, using(instruction_set::proofs::Bounds::parent_below))]
+#[inline]
+fn put_line(out: &mut [u8], at: usize, regs: &[u64; 22], register: Register) -> usize
     requires { at + 33 < 2 ^ 64 }
-    ensures { TextPut 33 out.old at (line_of regs register) out.new result }
+    ensures { TextPut 33 out.old at (line_of regs.now register) out.new result }
 {
     let parent = instruction_set::get_parent(register);
     let value = regs[parent];
@@ -68,35 +58,41 @@ fn put_line(out: &mut [u8], at: usize, regs: [u64; 22], register: Register) -> u
     put_hex(out, p, value)
 }
 
-// The 17 lines of the state (RULES 6.7), with no newline after the last, from offset 0 on; answers the length.
+// The 17 lines of the state (RULES 6.7), with no newline after the last, from offset 0 on; answers the length. Inlined, so that
+// a call over an empty buffer compiles to a count.
+#[inline(always)]
 pub fn put_state(out: &mut [u8], regs: [u64; 22]) -> usize
     ensures { TextPut 577 out.old 0 (line_of regs RAX ++ lines_after regs others) out.new result }
 {
-    let mut o = put_line(out, 0, regs, Register::RAX);
-    let mut k: usize = 0;
-    while k < 16 {
+    let mut o = put_line(out, 0, &regs, Register::RAX);
+    for register in OTHERS {
         o = put_byte(out, o, b'\n');
-        o = put_line(out, o, regs, other_at(k));
-        k += 1;
+        o = put_line(out, o, &regs, register);
     }
     o
 }
 
-fn label_digit(parent: usize) -> u8
-    requires { (17 ≤ parent) × (parent < 22) }
-    ensures { result ≡ get_or (ascii "02345") (parent - 17) 0 }
+// The digit of a control register's label, as in the Rust (RULES 6.8); absent where a write of the register gives no event (RULES 2.7).
+#[tactic(auto, unfolding(instruction_set::specs::Registers::row))]
+fn label_digit(register: Register) -> Option<u8>
+    ensures { MatchOption result (parent_of register < 17) (λ digit. (17 ≤ parent_of register) × (digit ≡ label_of register)) }
 {
-    LABELS[parent - CR0]
+    match register {
+        Register::CR0 => Some(b'0'),
+        Register::CR2 => Some(b'2'),
+        Register::CR3 => Some(b'3'),
+        Register::CR4 => Some(b'4'),
+        Register::CR8 => Some(b'5'),
+        _ => None,
+    }
 }
 
 fn put_control(out: &mut [u8], register: Register, value: u64) -> usize
     ensures { TextPut 21 out.old 0 (control_text register value) out.new result }
 {
-    let parent = instruction_set::get_parent(register);
-    if parent < CR0 {
+    let Some(digit) = label_digit(register) else {
         return 0;
-    }
-    let digit = label_digit(parent);
+    };
     let o = put_bytes(out, 0, b"CR");
     let p = put_byte(out, o, digit);
     let q = put_bytes(out, p, b": ");
@@ -106,12 +102,10 @@ fn put_control(out: &mut [u8], register: Register, value: u64) -> usize
 fn put_video(out: &mut [u8], byte: u8) -> usize
     ensures { TextPut 9 out.old 0 (ascii "VIDEO: " ++ utf8 byte) out.new result }
 {
+    let mut room = [0; 4];
+    let character = char::from(byte).encode_utf8(&mut room);
     let o = put_bytes(out, 0, b"VIDEO: ");
-    if byte < 0x80 {
-        return put_byte(out, o, byte);
-    }
-    let p = put_byte(out, o, 0xC0 + byte / 0x40);
-    put_byte(out, p, 0x80 + byte % 0x40)
+    put_bytes(out, o, character.as_bytes())
 }
 
 // The line of an event (RULES 6.8), empty where there is none, from offset 0 on; answers the length.

@@ -1,6 +1,7 @@
 -- Bytes and words, low byte first: each way undoes the other, and byte k of a word is its lane k. By induction on the number of bytes.
 -- Assumes nothing.
-use Rattle.std.proofs.Common.{◌≡◌, ℕ, zero, suc, ◌+◌, ◌*◌, ◌/◌, ◌%◌, ◌^◌, ◌<◌, ◌≤◌, List, [], ◌∷◌, ◌++◌, length, get_or, take, drop, replicate, sym, refl, ap, ◌∙◌, div-one, arith, drop_of_length-le, shr-shr}
+use Rattle.std.proofs.Common.{◌≡◌, ℕ, zero, suc, ◌+◌, ◌*◌, ◌/◌, ◌%◌, ◌^◌, ◌<◌, ◌≤◌, List, [], ◌∷◌, ◌++◌, length, get_or, take, drop}
+use Rattle.std.proofs.Common.{replicate, sym, refl, ap, ◌∙◌, div-one, arith, drop_of_length-le, shr-shr}
 use native.Mathlib.Nat.{mod-one}
 use lib.Pow.{mod-pow-add}
 use Rattle.utils.specs.Bytes.{to_bytes, from_bytes}
@@ -59,13 +60,10 @@ pub to_eight : (x : ℕ)
 unfolding to_bytes
 to_eight x = rw (shr-shr x 8 8, shr-shr x 16 8, shr-shr x 24 8, shr-shr x 32 8, shr-shr x 40 8, shr-shr x 48 8)
 
-take_zero : (l : List ℕ) → take 0 l ≡ []
-take_zero [] = refl
-take_zero (x ∷ l) = refl
-
 -- fewer bytes of the same number
 pub take_to_bytes : (n k x : ℕ) → n ≤ k → take n (to_bytes k x) ≡ to_bytes n x
 unfolding to_bytes
-take_to_bytes zero k x h = take_zero (to_bytes k x)
+take_to_bytes zero zero x h = refl
+take_to_bytes zero (suc k) x h = refl
 take_to_bytes (suc n) zero x h = absurd (omega arith)
 take_to_bytes (suc n) (suc k) x h = ap (λ (l : List ℕ). x % 2 ^ 8 ∷ l) (take_to_bytes n k (x / 2 ^ 8) (omega arith))

@@ -1,9 +1,11 @@
 -- Sign extension: it looks at the low n bits alone and keeps them; no bits, and bits of 0, read 0; 64 bits are the word itself.
 -- Assumes nothing.
-use Rattle.std.proofs.Common.{◌≡◌, ℕ, ◌+◌, ◌-◌, ◌*◌, ◌/◌, ◌%◌, ◌^◌, ◌<◌, ◌≤◌, Bool, true, false, cond, ltb, sym, refl, ap, ◌∙◌, mod-lt, mod-eq_of_lt, div-one, arith, pow_pos, pow_mono, le-ltb, lt-ltb}
+use Rattle.std.proofs.Common.{◌≡◌, ℕ, ◌+◌, ◌-◌, ◌*◌, ◌/◌, ◌%◌, ◌^◌, ◌<◌, ◌≤◌, Bool, true, false, cond, ltb, sym, ap, ◌∙◌, mod-lt}
+use Rattle.std.proofs.Common.{mod-eq_of_lt, div-one, arith, pow_pos, pow_mono, le-ltb, lt-ltb}
 use native.Mathlib.Nat.{mod-mod, mod-one, mul-add-mod_self_right}
-use lib.Pow.{pow-lt, mod-pow-add, high_ones}
+use lib.Pow.{mod-pow-add, high_ones}
 use Rattle.utils.specs.Word.{cut, extend}
+use Rattle.std.proofs.lemmas.Bool.{cond_both}
 use Rattle.utils.proofs.Powers.{twice}
 
 pub extend_none : (x : ℕ) → extend 0 x ≡ 0
@@ -16,16 +18,13 @@ extend_zero n =
     let z : 0 % 2 ^ n ≡ 0 = mod-eq_of_lt (pow_pos n) in
     rw (z, lt-ltb 0 (2 ^ (n - 1)) (pow_pos (n - 1)))
 
-either : (b : Bool) {x y : ℕ} → y ≡ x → cond b x y ≡ x
-either true e = refl
-either false e = e
-
 -- 64 bits or more
 pub extend_whole : (n x : ℕ) → 64 ≤ n → x < 2 ^ 64 → extend n x ≡ x
 unfolding extend
 extend_whole n x h l =
     let p : 2 ^ 64 ≤ 2 ^ n = pow_mono h in
-    either (ltb (x % 2 ^ n) (2 ^ (n - 1))) (omega arith) ∙ mod-eq_of_lt (omega arith)
+    let low : x % 2 ^ n ≡ x = mod-eq_of_lt (omega arith) in
+    cond_both (ltb (x % 2 ^ n) (2 ^ (n - 1))) (x % 2 ^ n) (x % 2 ^ n + (2 ^ 64 - 2 ^ n)) (λ z. z ≡ x) (λ e. low) (λ e. omega arith)
 
 -- words with the same low n bits extend alike
 pub extend_same : (n x y : ℕ) → cut x 0 n ≡ cut y 0 n → extend n x ≡ extend n y
@@ -44,10 +43,6 @@ pub extend_low : (n x : ℕ) → extend n x ≡ extend n (cut x 0 n)
 extend_low n x = sym (extend_cut n 0 x ∙ ap (extend n) (div-one x))
 
 -- ---- how `sign_extend` computes it, with k the number of the sign bit
--- the power that a shift of 1 gives
-pub power : (k : ℕ) → k < 64 → 1 * 2 ^ k % 2 ^ 64 ≡ 2 ^ k
-power k h = let l : 2 ^ k < 2 ^ 64 = pow-lt h in let e : 1 * 2 ^ k ≡ 2 ^ k = omega arith in rw e (mod-eq_of_lt l)
-
 module _ (n x : ℕ) (some : 1 ≤ n) where
   low_bits : x % 2 ^ n ≡ x / 2 ^ (n - 1) % 2 * 2 ^ (n - 1) + x % 2 ^ (n - 1)
   low_bits = let e : n ≡ 1 + (n - 1) = omega arith in ap (λ (m : ℕ). x % 2 ^ m) e ∙ mod-pow-add x 1 (n - 1)

@@ -1,6 +1,7 @@
 -- The law of fields, once over first bit and width: a field put in reads back, every other field stays, and neighbouring fields fix the
 -- field that they make up. Registers, lanes and flags use these and never open `cut` or `put`. Assumes nothing.
-use Rattle.std.proofs.Common.{◌≡◌, ℕ, zero, suc, ◌+◌, ◌-◌, ◌*◌, ◌/◌, ◌%◌, ◌^◌, ◌<◌, ◌≤◌, ◌⊎◌, sym, ap, ◌∙◌, subst, ap₂, inl, inr, mod-lt, mod-eq_of_lt, mul_assoc, mul-zero, mul-suc, div-one, arith, pow_pos, pow-add, shr-shr, shr_lt}
+use Rattle.std.proofs.Common.{◌≡◌, ℕ, zero, suc, ◌+◌, ◌-◌, ◌*◌, ◌/◌, ◌%◌, ◌^◌, ◌<◌, ◌≤◌, ◌⊎◌, sym, ap, ◌∙◌, subst, ap₂, inl, inr, mod-lt}
+use Rattle.std.proofs.Common.{mod-eq_of_lt, mul_assoc, mul-zero, mul-suc, div-one, arith, pow_pos, pow-add, shr-shr, shr_lt}
 use mathlib.Core.Path.{subst⁻¹}
 use native.Mathlib.Nat.{mod-one, mul-add-mod_self_right}
 use lib.Arith.{digits_lt}

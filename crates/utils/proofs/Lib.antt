@@ -2,8 +2,6 @@ pub mod TwosComplement
 pub mod Powers
 pub mod Field
 pub mod Extend
-pub mod Product
 pub mod Bytes
 pub mod Outcomes
 pub mod RoundTrip
-pub mod Bools

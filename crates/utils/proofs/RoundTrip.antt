@@ -1,6 +1,7 @@
 -- A signed number written as n bytes, low byte first, comes back: read as a number, sign-extended from the bytes, and read as signed.
 -- Once over the number of bits. Assumes nothing.
-use Rattle.std.proofs.Common.{◌≡◌, ℕ, zero, suc, ◌+◌, ◌-◌, ◌*◌, ◌%◌, ◌^◌, ◌<◌, ◌≤◌, ℤ, pos, negsuc, ap, ◌∙◌, mod-eq_of_lt, suc-mul, arith, pow_pos, pow_mono, w64, to_z, of_z, le-ltb, lt-ltb}
+use Rattle.std.proofs.Common.{◌≡◌, ℕ, zero, suc, ◌+◌, ◌-◌, ◌*◌, ◌%◌, ◌^◌, ◌<◌, ◌≤◌, ℤ, pos, negsuc, ap, ◌∙◌, mod-eq_of_lt, suc-mul, arith}
+use Rattle.std.proofs.Common.{pow_pos, pow_mono, w64, to_z, of_z, le-ltb, lt-ltb}
 use native.Mathlib.Nat.{mod-mod}
 use lib.Pow.{low}
 use lib.Signed.{mag}

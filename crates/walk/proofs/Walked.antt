@@ -1,5 +1,6 @@
 -- The walk: its steps as the code takes them, and that it depends on nothing but the bytes of the three entries it reads.
-use Rattle.std.proofs.Common.{◌≡◌, ℕ, zero, suc, ◌+◌, ◌-◌, ◌%◌, ◌^◌, ◌<◌, Bool, true, false, cond, eqb, List, length, refl, ap, ◌∙◌, arith, eq-eqb, ne_eqb}
+use Rattle.std.proofs.Common.{◌≡◌, ℕ, zero, suc, ◌+◌, ◌-◌, ◌%◌, ◌^◌, ◌<◌, Bool, true, false, cond, eqb, List, length, refl, ap, ◌∙◌, arith}
+use Rattle.std.proofs.Common.{eq-eqb, ne_eqb}
 use Rattle.utils.specs.Bytes.{from_bytes}
 use Rattle.store.specs.Store.{Store, is_store, byte_at, read_at}
 use Rattle.walk.specs.Walk.{entry_address, word_at, next_table, walked, physical, translated, read_into, entries_read, SameEntries}

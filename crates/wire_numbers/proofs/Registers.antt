@@ -1,21 +1,19 @@
 -- What stands at a number: one of the list, or nothing past its end. And the lists agree with the numbers: the register at position n has
 -- number n, as the numbers of the list are seen to be 0, 1, .. by computation, and each size stands at its number, by cases. Assumes
 -- nothing.
+use Rattle.std.specs.Prelude.{Some, None}
+use Rattle.std.proofs.lemmas.Option.{slice_get-get_or, slice_get_past}
 use mathlib.Core.List.{List, [], ◌∷◌, map}
 use mathlib.Core.Path.{◌≡◌, refl, sym, ap, ◌∙◌}
 use Prim.Native.Nat.{ℕ, zero, suc, ◌+◌, ◌<◌, ◌≤◌}
 use native.Mathlib.Nat.{zero-add}
 use native.Mathlib.Omega.{arith}
-use lib.ListN.{length, get_or, get_or-map, get_or-eq_default}
+use lib.ListN.{get_or, get_or-map}
 use Rattle.instruction_set.specs.declared.ArgumentSize.{ArgumentSize}
 use Rattle.instruction_set.specs.declared.ArgumentSize.TheVariants.{Bit64, Bit32, Bit16, Bit8}
-use Rattle.instruction_set.specs.declared.Register.{Register}
 use Rattle.instruction_set.specs.declared.Register.TheVariants.{RAX}
-use Rattle.instruction_set.specs.declared.SomeRegister.TheVariants as register
-use Rattle.instruction_set.specs.declared.SomeSize.TheVariants as size
 use Rattle.arithmetic.specs.declared.Operation.TheVariants.{Add, AddWithCarry, Subtract, SubtractWithBorrow, Compare}
 use Rattle.wire_numbers.specs.Numbers.{registers, register_number, register_at, size_number, size_at, operation_at}
-use Rattle.wire_numbers.specs.declared.SomeOperation.TheVariants as operation
 
 -- n numbers from k on
 abbrev up_from : ℕ → ℕ → List ℕ
@@ -33,31 +31,23 @@ number_at n lt =
     let numbers : map register_number registers ≡ up_from 0 80 = refl in
     sym (get_or-map register_number registers n RAX) ∙ ap (λ (l : List ℕ). get_or l n 0) numbers ∙ up_at 0 80 n lt ∙ zero-add n
 
--- one of a list of registers, or none past its end
-present_in : (rs : List Register) (n : ℕ) → n < length rs
-    → get_or (map register.Present rs) n register.Absent ≡ register.Present (get_or rs n RAX)
-present_in [] n lt = absurd (omega (arith, lt))
-present_in (r ∷ rs) zero lt = refl
-present_in (r ∷ rs) (suc n) lt = present_in rs n (omega (arith, lt))
-
-pub stands : (n : ℕ) → n < 80 → register_at n ≡ register.Present (get_or registers n RAX)
+pub stands : (n : ℕ) → n < 80 → register_at n ≡ Some (get_or registers n RAX)
 unfolding register_at
-stands n lt = present_in registers n lt
+stands n lt = slice_get-get_or registers n RAX lt
 
-pub nothing_past : (n : ℕ) → 80 ≤ n → register_at n ≡ register.Absent
+pub nothing_past : (n : ℕ) → 80 ≤ n → register_at n ≡ None
 unfolding register_at
-nothing_past n le = get_or-eq_default (map register.Present registers) register.Absent le
+nothing_past n le = slice_get_past registers n le
 
-pub no_size : (n : ℕ) → 4 ≤ n → size_at n ≡ size.Absent
+pub no_size : (n : ℕ) → 4 ≤ n → size_at n ≡ None
 unfolding size_at
-no_size n le = get_or-eq_default (map size.Present (Bit64 ∷ Bit32 ∷ Bit16 ∷ Bit8 ∷ [])) size.Absent le
+no_size n le = slice_get_past (Bit64 ∷ Bit32 ∷ Bit16 ∷ Bit8 ∷ []) n le
 
-pub no_operation : (n : ℕ) → 5 ≤ n → operation_at n ≡ operation.Absent
+pub no_operation : (n : ℕ) → 5 ≤ n → operation_at n ≡ None
 unfolding operation_at
-no_operation n le =
-    get_or-eq_default (map operation.Present (Add ∷ AddWithCarry ∷ Subtract ∷ SubtractWithBorrow ∷ Compare ∷ [])) operation.Absent le
+no_operation n le = slice_get_past (Add ∷ AddWithCarry ∷ Subtract ∷ SubtractWithBorrow ∷ Compare ∷ []) n le
 
-pub size_stands : (z : ArgumentSize) → size_at (size_number z) ≡ size.Present z
+pub size_stands : (z : ArgumentSize) → size_at (size_number z) ≡ Some z
 unfolding size_at
 size_stands Bit64 = refl
 size_stands Bit32 = refl

@@ -1,17 +1,12 @@
 -- The numbers of docs/FORMAT.md, "A record": registers and sizes, numbered in the Rust's order, and operations; and what stands at a
 -- number.
-use Rattle.std.specs.Prelude.{List, [], ◌∷◌, map, ℕ, get_or}
+use Rattle.arithmetic.specs.declared.Operation.{Operation}
+use Rattle.std.specs.Prelude.{List, [], ◌∷◌, ℕ, Option, slice_get}
 use Rattle.instruction_set.specs.declared.ArgumentSize.{ArgumentSize}
 use Rattle.instruction_set.specs.declared.ArgumentSize.TheVariants.{Bit64, Bit32, Bit16, Bit8}
 use Rattle.instruction_set.specs.declared.Register.{Register}
 use Rattle.instruction_set.specs.declared.Register.TheVariants as reg
-use Rattle.instruction_set.specs.declared.SomeRegister.{SomeRegister}
-use Rattle.instruction_set.specs.declared.SomeRegister.TheVariants as register
-use Rattle.instruction_set.specs.declared.SomeSize.{SomeSize}
-use Rattle.instruction_set.specs.declared.SomeSize.TheVariants as size
 use Rattle.arithmetic.specs.declared.Operation.TheVariants.{Add, AddWithCarry, Subtract, SubtractWithBorrow, Compare}
-use Rattle.wire_numbers.specs.declared.SomeOperation.{SomeOperation}
-use Rattle.wire_numbers.specs.declared.SomeOperation.TheVariants as operation
 
 unfoldable pub register_number : Register → ℕ
 register_number reg.RAX = 0
@@ -117,14 +112,13 @@ registers =
     reg.R12B ∷ reg.R13B ∷ reg.R14B ∷ reg.R15B ∷
     reg.ES ∷ reg.CS ∷ reg.SS ∷ reg.DS ∷ reg.FS ∷ reg.GS ∷ []
 
-unfoldable pub register_at : ℕ → SomeRegister
-register_at n = get_or (map register.Present registers) n register.Absent
+unfoldable pub register_at : ℕ → Option Register
+register_at n = slice_get registers n
 
 -- "0 Bit64, 1 Bit32, 2 Bit16, 3 Bit8"
-unfoldable pub size_at : ℕ → SomeSize
-size_at n = get_or (map size.Present (Bit64 ∷ Bit32 ∷ Bit16 ∷ Bit8 ∷ [])) n size.Absent
+unfoldable pub size_at : ℕ → Option ArgumentSize
+size_at n = slice_get (Bit64 ∷ Bit32 ∷ Bit16 ∷ Bit8 ∷ []) n
 
 -- "operations add 0, add with carry, subtract, subtract with borrow, compare 4"
-unfoldable pub operation_at : ℕ → SomeOperation
-operation_at n =
-    get_or (map operation.Present (Add ∷ AddWithCarry ∷ Subtract ∷ SubtractWithBorrow ∷ Compare ∷ [])) n operation.Absent
+unfoldable pub operation_at : ℕ → Option Operation
+operation_at n = slice_get (Add ∷ AddWithCarry ∷ Subtract ∷ SubtractWithBorrow ∷ Compare ∷ []) n

@@ -1,3 +1,1 @@
-pub mod Narrow
-pub mod Parts
 pub mod Exact

@@ -18,18 +18,8 @@ fn call_block(call: CallKind) -> Block
     ensures { result ≡ call_block call }
 {
     match call {
-        CallKind::ReadOperand => Block::Nothing,
-        CallKind::WriteOperand => Block::Nothing,
-        CallKind::EffectiveAddress => Block::Nothing,
-        CallKind::Push => Block::Bytes,
-        CallKind::Pop => Block::Nothing,
-        CallKind::ReadMemory => Block::Nothing,
-        CallKind::WriteMemory => Block::Bytes,
-        CallKind::TestFlag => Block::Nothing,
-        CallKind::SetFlag => Block::Nothing,
-        CallKind::ComputeFlags => Block::Nothing,
-        CallKind::Arithmetic => Block::Nothing,
-        CallKind::ComputeSizedFlags => Block::Nothing,
+        CallKind::Push | CallKind::WriteMemory => Block::Bytes,
+        _ => Block::Nothing,
     }
 }
 
@@ -37,12 +27,8 @@ fn show_block(show: ShowKind) -> Block
     ensures { result ≡ show_block show }
 {
     match show {
-        ShowKind::PageView => Block::Nothing,
-        ShowKind::Load => Block::Bytes,
-        ShowKind::ShowMachine => Block::Nothing,
-        ShowKind::ShowDirectory => Block::Nothing,
-        ShowKind::ShowBytes => Block::Nothing,
-        ShowKind::Report => Block::Bytes,
+        ShowKind::Load | ShowKind::Report => Block::Bytes,
+        _ => Block::Nothing,
     }
 }
 
@@ -50,15 +36,12 @@ fn block_of(kind: Kind) -> Block
     ensures { result ≡ block_of kind }
 {
     match kind {
-        Kind::Unknown => Block::Nothing,
         Kind::Call(call) => call_block(call),
-        Kind::ReadByte => Block::Nothing,
-        Kind::Access(_) => Block::Nothing,
         Kind::Show(show) => show_block(show),
-        Kind::Text(_) => Block::Nothing,
         Kind::Reset => Block::Machine,
         Kind::ReadBack => Block::Bytes,
         Kind::Depends => Block::TwoHeaders,
+        Kind::Unknown | Kind::ReadByte | Kind::Access(_) | Kind::Text(_) => Block::Nothing,
     }
 }
 
@@ -66,13 +49,7 @@ fn block_of(kind: Kind) -> Block
 pub fn reset_fits(length: u64, slots: u64) -> bool
     ensures { result ≡ eqb length (reset_length slots) }
 {
-    if length < 200 {
-        return false;
-    }
-    if length % 8 != 0 {
-        return false;
-    }
-    (length - 200) / 8 == slots
+    u128::from(length) == 200 + 8 * u128::from(slots)
 }
 
 fn fits_for(block: Block, length: u64, slots: u64) -> bool
@@ -87,9 +64,9 @@ fn fits_for(block: Block, length: u64, slots: u64) -> bool
 }
 
 // Whether the block that a header announces is as long as its kind asks.
+#[tactic(auto, unfolding(crate::specs::Blocks::block_fits))]
 pub fn block_fits(header: Header) -> bool
     ensures { result ≡ block_fits header }
 {
-    let kind = header.kind;
-    fits_for(block_of(kind), header.length, header.a)
+    fits_for(block_of(header.kind), header.length, header.a)
 }

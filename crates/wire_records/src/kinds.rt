@@ -1,7 +1,7 @@
 // What a record asks for, by the number in its first word (docs/FORMAT.md). A number is looked up once, where its header is decoded.
-ghost use Rattle.std.specs.Prelude.{◌≡◌, ◌<◌, get_or};
+ghost use Rattle.std.specs.Prelude.{◌≡◌, get_or};
 ghost use Rattle.wire_records.specs.declared.kinds.Kind.TheVariants.{Unknown};
-ghost use Rattle.wire_records.specs.Kinds.{kinds, kind_at};
+ghost use Rattle.wire_records.specs.Kinds.{kind_at};
 
 // The tabled calls, carried out by calls::perform.
 #[derive(Clone, Copy)]
@@ -50,9 +50,11 @@ pub enum TextKind {
     RegisterText,
 }
 
-// What a record asks for; a number that names nothing is unknown.
-#[derive(Clone, Copy)]
+// What a record asks for; a number that names nothing is unknown: a case like the others, and no absence, for each match says what such a
+// record is.
+#[derive(Clone, Copy, Default)]
 pub enum Kind {
+    #[default]
     Unknown,
     Call(CallKind),
     ReadByte,
@@ -110,19 +112,18 @@ const KINDS: [Kind; 42] = [
     Kind::Depends, // 41
 ];
 
-fn kind_in(n: usize) -> Kind
-    requires { n < 42 }
-    ensures { result ≡ get_or kinds n Unknown }
+// What stands at a number; unknown from the list's end on.
+#[tactic(auto, using(std::proofs::lemmas::Option::gets))]
+fn kind_among(kinds: &[Kind], number: u64) -> Kind
+    ensures { result ≡ get_or kinds.now number Unknown }
 {
-    KINDS[n]
+    kinds.get(number as usize).copied().unwrap_or(Kind::Unknown)
 }
 
 // The kind of a number.
+#[tactic(auto, unfolding(crate::specs::Kinds::kind_at))]
 pub fn kind_at(number: u64) -> Kind
     ensures { result ≡ kind_at number }
 {
-    if 42 <= number {
-        return Kind::Unknown;
-    }
-    kind_in(number as usize)
+    kind_among(&KINDS, number)
 }

@@ -1,31 +1,28 @@
 // Calls as records of bytes (docs/FORMAT.md): a header of 16 words is decoded into what it asks for, and a reply is encoded as an answer
-// of 8 words. What is no record is malformed. Below are calls, which the records ask for, and `wire_numbers`; above are `wire_session`, which
-// carries a record out, and drive, a program that reads records and writes answers. So the machine can be compared with the Rust, call by
-// call (RULES 7.7). No rule rests on this crate: the format is docs/FORMAT.md's.
+// of 8 words. What is no record is malformed: none. Below are calls, which the records ask for, and `wire_numbers`; above are
+// `wire_session`, which carries a record out, and drive, a program that reads records and writes answers. So the machine can be compared
+// with the Rust, call by call (RULES 7.7). No rule rests on this crate: the format is docs/FORMAT.md's.
 #![tactic(auto)]
 
 ghost use Rattle.std.specs.Prelude.{◌≡◌, ◌+◌, ◌≤◌, length};
 ghost use Rattle.wire_records.specs.Words.{operand_words_at, header_at, header_in};
-ghost use Rattle.wire_records.specs.Answers.{encoded};
 
 use byte_runs::word_at;
+use machine_state::Given;
 
 mod kinds; // kinds.rt: what a record asks for, by its number
 mod blocks; // blocks.rt: how long a record's block must be
-mod codes; // codes.rt: events as numbers
 mod items; // items.rt: from words to what they ask for
-mod answers; // answers.rt: from operands and replies to words
+mod answers; // answers.rt: from operands, events and replies to words
 
 pub use answers::{encode, operand_words};
 pub use blocks::{block_fits, reset_fits};
-pub use items::{
-    DecodedArguments, DecodedCall, DecodedEvent, decode_arguments, decode_call, decode_event,
-    given_operand,
-};
+pub use items::{decode_arguments, decode_call, decode_event, given_operand};
 pub use kinds::{AccessKind, CallKind, Kind, ShowKind, TextKind, kind_at};
 
-// The five words of an operand. Registers and scales are given by their number plus 1, and 0 says that they are absent.
-#[derive(Clone, Copy)]
+// The five words of an operand, as they stand in a record (docs/FORMAT.md), its kind too. Registers and scales are given by their number
+// plus 1, and 0 says that they are absent.
+#[derive(Clone, Copy, Default)]
 pub struct OperandWords {
     pub kind: u64,
     pub base: u64,
@@ -35,7 +32,7 @@ pub struct OperandWords {
 }
 
 // The sixteen words of a header, the first of them decoded. What a, b and c are depends on the kind.
-#[derive(Clone, Copy)]
+#[derive(Clone, Copy, Default)]
 pub struct Header {
     pub kind: Kind,
     pub length: u64,
@@ -47,14 +44,13 @@ pub struct Header {
     pub second: OperandWords,
 }
 
-// What a record answers. `shape` says what `value` is: 0 nothing, 1 a value, 2 a truth. The first `given` of the lent bytes belong to the
-// answer. Where the record is malformed, `formed` is false and there is no answer.
+// What a record answers: the number of the refusal, 0 where it is accepted, and what is said, beside a refusal too (6 and 13 say a word).
+// It is a word of the answer (docs/FORMAT.md), for the refusals of five crates. The first `given` of the lent bytes belong to the answer.
+// What is no record has no reply.
 #[derive(Clone, Copy)]
 pub struct Reply {
-    pub formed: bool,
     pub refusal: u64,
-    pub shape: u64,
-    pub value: u64,
+    pub said: Given,
     pub given: usize,
 }
 
@@ -91,27 +87,12 @@ fn header_at(bytes: &[u8], at: usize) -> Header
 }
 
 // Header k of those that stand end to end in a block. Past the last whole one it is all zeros, which is no record.
+#[tactic(auto, unfolding(crate::specs::Words::header_in))]
 pub fn header_in(block: &[u8], k: usize) -> Header
     ensures { result ≡ header_in block.now k }
 {
     if k < block.len() / 128 {
         return header_at(block, 128 * k);
     }
-    let none = OperandWords {
-        kind: 0,
-        base: 0,
-        index: 0,
-        scale: 0,
-        value: 0,
-    };
-    Header {
-        kind: Kind::Unknown,
-        length: 0,
-        size: 0,
-        a: 0,
-        b: 0,
-        c: 0,
-        first: none,
-        second: none,
-    }
+    Header::default()
 }

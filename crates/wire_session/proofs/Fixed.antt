@@ -1,4 +1,5 @@
 -- Two outcomes that meet a record's contract are equal: the words choose the case, and each case is equations. By cases. Assumes nothing.
+use Rattle.std.specs.Prelude.{Option, Some, None, MatchOption}
 use mathlib.Core.Bool.{Bool, true, false, cond}
 use mathlib.Core.List.{List, [], ◌∷◌}
 use mathlib.Core.Path.{◌≡◌, sym, ap, ◌∙◌}
@@ -11,11 +12,13 @@ use Rattle.instruction_set.specs.declared.InstructionArgument.{InstructionArgume
 use Rattle.instruction_set.specs.declared.InstructionArguments.{InstructionArguments}
 use Rattle.store.specs.Store.{Store, store_of}
 use Rattle.store.specs.View.{view_of}
-use Rattle.machine_state.specs.Answers.{Result}
+use Rattle.machine_state.specs.Answers.{CallResult}
 use Rattle.machine_state.specs.declared.MachineState.{MachineState}
 use Rattle.calls.specs.Step.{step}
+use Rattle.calls.specs.declared.Call.{Call}
+use Rattle.text.specs.Answers.{TextOrRefusal}
 use Rattle.wire_records.specs.Blocks.{block_fits}
-use Rattle.wire_records.specs.Decoded.{on_arguments, on_call, arguments_at, call_of}
+use Rattle.wire_records.specs.Decoded.{arguments_at, call_of}
 use Rattle.wire_records.specs.declared.Header.{Header}
 use Rattle.wire_records.specs.declared.Reply.{Reply}
 use Rattle.wire_records.specs.declared.kinds.AccessKind.{AccessKind}
@@ -24,17 +27,12 @@ use Rattle.wire_records.specs.declared.kinds.Kind.{Kind}
 use Rattle.wire_records.specs.declared.kinds.Kind.TheVariants as kind
 use Rattle.wire_records.specs.declared.kinds.ShowKind.{ShowKind}
 use Rattle.wire_records.specs.declared.kinds.ShowKind.TheVariants as show
-use Rattle.wire_records.specs.declared.items.DecodedArguments.{DecodedArguments}
-use Rattle.wire_records.specs.declared.items.DecodedArguments.TheVariants as built
-use Rattle.wire_records.specs.declared.items.DecodedCall.{DecodedCall}
-use Rattle.wire_records.specs.declared.items.DecodedCall.TheVariants as decoded
 use Rattle.wire_session.specs.Accesses.{OperandsGiven, Accessed, Accesses}
 use Rattle.wire_session.specs.CarriesOut.{CallCarried, still, ShowCarried, Stays, NoCall, Called, Carries, CarriesOut}
-use Rattle.wire_session.specs.Replies.{NoRecord, Given}
-use Rattle.wire_session.specs.Reports.{CallList, nothing, calls, onCalls, calls_listed, whole, Reported, Reports}
+use Rattle.wire_session.specs.Replies.{NoRecord, GivenIf}
+use Rattle.wire_session.specs.Reports.{calls_listed, whole, Reported, Reports}
 use Rattle.wire_session.specs.Shows.{zeros_of, ViewGiven, PageGiven}
-use Rattle.wire_session.specs.Texts.{Asked, asks, asked, Texts}
-use Rattle.wire_session.specs.Texts as texts
+use Rattle.wire_session.specs.Texts.{asked, Texts}
 use Rattle.wire_session.specs.declared.Carried.{Carried}
 
 -- the same test chooses the same case
@@ -43,21 +41,21 @@ either true f g p q = f p q
 either false f g p q = g p q
 
 -- ---- a reply and the lent bytes
-pub record Same (r r' : Reply) (x y : List ℕ) : Type 0 where
+pub record Same (r r' : Option Reply) (x y : List ℕ) : Type 0 where
   pub reply : r ≡ r'
   pub bytes : x ≡ y
 
-meet : {r r' a : Reply} {x y b : List ℕ} → r ≡ a → x ≡ b → r' ≡ a → y ≡ b → Same r r' x y
+meet : {r r' a : Option Reply} {x y b : List ℕ} → r ≡ a → x ≡ b → r' ≡ a → y ≡ b → Same r r' x y
 meet p q s t = record { reply = p ∙ sym s; bytes = q ∙ sym t }
 
-none_one : {l x y : List ℕ} {r r' : Reply} → NoRecord l r x → NoRecord l r' y → Same r r' x y
+none_one : {l x y : List ℕ} {r r' : Option Reply} → NoRecord l r x → NoRecord l r' y → Same r r' x y
 none_one p q = meet p.reply p.bytes q.reply q.bytes
 
-given_one : {ok : Bool} {g at n : ℕ} {d x y : List ℕ} {f : ℕ → ℕ} {r r' : Reply}
-    → Given ok g d at f n r x → Given ok g d at f n r' y → Same r r' x y
+given_one : {ok : Bool} {g at n : ℕ} {d x y : List ℕ} {f : ℕ → ℕ} {r r' : Option Reply}
+    → GivenIf ok g d at f n r x → GivenIf ok g d at f n r' y → Same r r' x y
 given_one p q = meet p.reply p.bytes q.reply q.bytes
 
-module _ (l : List ℕ) {x y : List ℕ} {r r' : Reply} where
+module _ (l : List ℕ) {x y : List ℕ} {r r' : Option Reply} where
   operands_one : (o : Outcome InstructionArgument) → OperandsGiven o l r x → OperandsGiven o l r' y → Same r r' x y
   operands_one o = either (accepted o) given_one (λ p q. meet p.0 p.1 q.0 q.1)
 
@@ -70,23 +68,23 @@ module _ (l : List ℕ) {x y : List ℕ} {r r' : Reply} where
   unfolding Accesses
   accesses_one k h = go (arguments_at h h.b h.c)
     where
-      go : (s : DecodedArguments) → on_arguments (NoRecord l r x) s (λ a. Accessed k a l r x)
-          → on_arguments (NoRecord l r' y) s (λ a. Accessed k a l r' y) → Same r r' x y
-      go built.Malformed p q = none_one p q
-      go (built.Is a) p q = accessed_one k a p q
+      go : (s : Option InstructionArguments) → MatchOption s (NoRecord l r x) (λ a. Accessed k a l r x)
+          → MatchOption s (NoRecord l r' y) (λ a. Accessed k a l r' y) → Same r r' x y
+      go None p q = none_one p q
+      go (Some a) p q = accessed_one k a p q
 
-  texts_one : (t : Asked) → Texts t l r x → Texts t l r' y → Same r r' x y
-  texts_one texts.nothing p q = none_one p q
-  texts_one (asks t) p q = meet p.0 p.1 q.0 q.1
+  texts_one : (t : Option TextOrRefusal) → Texts t l r x → Texts t l r' y → Same r r' x y
+  texts_one None p q = none_one p q
+  texts_one (Some t) p q = meet p.0 p.1 q.0 q.1
 
   reports_one : (h : Header) → Reports h l r x → Reports h l r' y → Same r r' x y
   unfolding Reports
   reports_one h = either (whole h l) (go (calls_listed l (h.length / 128))) none_one
     where
-      go : (cs : CallList) → onCalls (NoRecord l r x) cs (λ c. Reported h l c r x)
-          → onCalls (NoRecord l r' y) cs (λ c. Reported h l c r' y) → Same r r' x y
-      go nothing p q = none_one p q
-      go (calls cs) p q = meet p.reply p.bytes q.reply q.bytes
+      go : (cs : Option (List Call)) → MatchOption cs (NoRecord l r x) (λ c. Reported h l c r x)
+          → MatchOption cs (NoRecord l r' y) (λ c. Reported h l c r' y) → Same r r' x y
+      go None p q = none_one p q
+      go (Some cs) p q = meet p.reply p.bytes q.reply q.bytes
 
   view_one : (v : List ℕ) (from n : ℕ) → ViewGiven v from n l r x → ViewGiven v from n l r' y → Same r r' x y
   view_one [] from n p q = meet p.0 p.1 q.0 q.1
@@ -132,7 +130,7 @@ same_carried e p q = record {
   lent = q;
 }
 
-leaves_one : {a : Result} {g : ℕ} {c c' : Carried} {s s' : Store} {x y : List ℕ}
+leaves_one : {a : CallResult} {g : ℕ} {c c' : Carried} {s s' : Store} {x y : List ℕ}
     → CallCarried a g c s x → CallCarried a g c' s' y → One c c' s s' x y
 leaves_one p q = record {
   machine = p.machine ∙ sym q.machine;
@@ -143,11 +141,11 @@ leaves_one p q = record {
 }
 
 -- what leaves the machine, where the reply and the store are fixed
-stays_one : (m : MachineState) (s : Store) {P Q : Reply → Store → Type 0} {c c' : Carried} {a b : Store} {x y : List ℕ}
-    → ((r r' : Reply) → P r a → Q r' b → Same r r' x y × (a ≡ b)) → Stays m s P c a → Stays m s Q c' b → One c c' a b x y
+stays_one : (m : MachineState) (s : Store) {P Q : Option Reply → Store → Type 0} {c c' : Carried} {a b : Store} {x y : List ℕ}
+    → ((r r' : Option Reply) → P r a → Q r' b → Same r r' x y × (a ≡ b)) → Stays m s P c a → Stays m s Q c' b → One c c' a b x y
 stays_one m s f p q =
     let e = f p.reply q.reply p.tells q.tells in
-    same_carried (p.carried ∙ ap (λ (r : Reply). still m s.used r) e.0.reply ∙ sym q.carried) e.1 e.0.bytes
+    same_carried (p.carried ∙ ap (λ (r : Option Reply). still m s.used r) e.0.reply ∙ sym q.carried) e.1 e.0.bytes
 
 module _ (h : Header) (m : MachineState) (s : Store) (l : List ℕ) {c c' : Carried} {a b : Store} {x y : List ℕ} where
   none_left : NoCall m s l c a x → NoCall m s l c' b y → One c c' a b x y
@@ -157,10 +155,10 @@ module _ (h : Header) (m : MachineState) (s : Store) (l : List ℕ) {c c' : Carr
   unfolding Called
   called_one = go (call_of h)
     where
-      go : (k : DecodedCall) → on_call (NoCall m s l c a x) k (λ k. CallCarried (step k m s l) (length l) c a x)
-          → on_call (NoCall m s l c' b y) k (λ k. CallCarried (step k m s l) (length l) c' b y) → One c c' a b x y
-      go decoded.Malformed p q = none_left p q
-      go (decoded.Is k) p q = leaves_one p q
+      go : (k : Option Call) → MatchOption k (NoCall m s l c a x) (λ k. CallCarried (step k m s l) (length l) c a x)
+          → MatchOption k (NoCall m s l c' b y) (λ k. CallCarried (step k m s l) (length l) c' b y) → One c c' a b x y
+      go None p q = none_left p q
+      go (Some k) p q = leaves_one p q
 
   carries_one : (k : Kind) → Carries k h m s l c a x → Carries k h m s l c' b y → One c c' a b x y
   unfolding Carries

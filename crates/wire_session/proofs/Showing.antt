@@ -1,31 +1,28 @@
 -- The shows: the machine's words, a part of a view, and the lent page of zeros. By the laws of `filled`. Assumes nothing.
+use Rattle.std.specs.Prelude.{Option, Some}
 use mathlib.Core.Bool.{Bool, true}
 use mathlib.Core.List.{List, [], ◌∷◌}
 use mathlib.Core.Path.{◌≡◌, refl, ap, ◌∙◌}
 use Prim.Native.Nat.{ℕ, zero, suc, ◌+◌, ◌*◌, ◌-◌, ◌≤◌, ◌<◌}
-use native.Mathlib.Nat.{not-suc-le-zero, le_of_suc-le-suc}
+use native.Mathlib.Nat.{not-suc-le-zero}
 use native.Mathlib.Omega.{arith}
 use borrow.Author.Tests.{lt-ltb, le-ltb}
-use lib.ListN.{length, set, take, replicate}
-use lib.Seq.{take-set-lt}
-use Rattle.utils.specs.Outcome.{gives, refuses}
+use lib.ListN.{length, set, take}
+use Rattle.utils.specs.Outcome.{gives}
 use Rattle.byte_runs.specs.Runs.{filled}
 use Rattle.byte_runs.proofs.Filled.{length_filled, filled_add, filled_ext}
 use Rattle.machine_state.specs.declared.MachineState.{MachineState}
 use Rattle.byte_runs.specs.Runs.{room, lane_in, FilledIf}
-use Rattle.byte_runs.proofs.Puts.{room_yes, room_no, put_was}
+use Rattle.byte_runs.proofs.Puts.{room_yes, put_was}
 use Rattle.wire_records.specs.declared.Reply.{Reply}
-use Rattle.wire_session.specs.Replies.{reply_of, no_reply}
-use Rattle.wire_session.specs.Shows.{machine_byte, MachineGiven, BytesGiven, ViewGiven}
-
-pub no_machine : (m : MachineState) {l l' : List ℕ} {r : Reply} → length l < 200 → r ≡ no_reply → l' ≡ l → MachineGiven m l r l'
-no_machine m {l} h e s = let q = room_no (length l) 0 200 (omega (arith, h)) in record { reply = rw q e; bytes = rw q s }
+use Rattle.wire_session.specs.Replies.{reply_of}
+use Rattle.wire_session.specs.Shows.{machine_byte, MachineGiven}
 
 -- the parents first, then the three others
-pub machine_given : (m : MachineState) {l d l' : List ℕ} {r : Reply} {a b : Bool} → length m.regs ≡ 22 → 200 ≤ length l
+pub machine_given : (m : MachineState) {l d l' : List ℕ} {r : Option Reply} {a b : Bool} → length m.regs ≡ 22 → 200 ≤ length l
     → FilledIf (room (length l) 0 (8 * length m.regs)) l 0 (lane_in m.regs) (8 * length m.regs) d a
     → FilledIf (room (length d) 176 24) d 176 (lane_in (m.rflags ∷ m.gdt ∷ m.idt ∷ [])) 24 l' b
-    → r ≡ reply_of (gives []) 200 → MachineGiven m l r l'
+    → r ≡ Some (reply_of (gives []) 200) → MachineGiven m l r l'
 machine_given m {l} {d} {l'} n h p q e = record { reply = rw yes e; bytes = rw yes all }
   where
     others : List ℕ
@@ -56,25 +53,6 @@ machine_given m {l} {d} {l'} n h p q e = record { reply = rw yes e; bytes = rw y
         ∙ ap (λ (x : List ℕ). filled x 176 (λ (k : ℕ). machine_byte m (176 + k)) 24)
         (first ∙ filled_ext l 0 (lane_in m.regs) (machine_byte m) 176 low)
         ∙ filled_add l 0 (machine_byte m) 176 24
-
-pub view_empty : {l l' : List ℕ} {r : Reply} (v : List ℕ) (from n : ℕ) → length v ≡ 0 → r ≡ reply_of (refuses 4) 0 → l' ≡ l
-    → ViewGiven v from n l r l'
-view_empty [] from n z e s = (e, s)
-view_empty (b ∷ bs) from n z e s = absurd (omega (arith, z))
-
-pub view_some : {l l' : List ℕ} {r : Reply} (v : List ℕ) (from n : ℕ) → (length v ≡ 0 → ⊥) → BytesGiven v from n l r l'
-    → ViewGiven v from n l r l'
-view_some [] from n z g = absurd (z refl)
-view_some (b ∷ bs) from n z g = g
-
-pub take_zeros : (z n : ℕ) → z ≤ n → take {A = ℕ} z (replicate n 0) ≡ replicate z 0
-take_zeros zero n h = refl
-take_zeros (suc z) zero h = absurd (not-suc-le-zero h)
-take_zeros (suc z) (suc n) h = ap (λ (r : List ℕ). 0 ∷ r) (take_zeros z n (le_of_suc-le-suc h))
-
--- a page is changed at its last byte, if it has one
-pub last_set : (p : List ℕ) (z v : ℕ) → 0 < z → take z (set p (z - 1) v) ≡ set (take z p) (z - 1) v
-last_set p z v h = take-set-lt z p (z - 1) v (omega (arith, h))
 
 pub none_set : (p : List ℕ) (z v : ℕ) → z ≤ 0 → take z p ≡ set (take z p) (z - 1) v
 none_set p zero v h = refl

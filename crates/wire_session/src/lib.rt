@@ -4,17 +4,17 @@
 // outside (RULES 7.7).
 #![tactic(auto)]
 
-ghost use Rattle.std.specs.Prelude.{[], ◌≡◌};
+ghost use Rattle.std.specs.Prelude.{[], ◌≡◌, Option, Some, None};
 ghost use Rattle.store.specs.Store.{store_of};
 ghost use Rattle.utils.specs.Outcome.{gives};
-ghost use Rattle.wire_session.specs.Replies.{reply_of, no_reply};
+ghost use Rattle.wire_session.specs.Replies.{reply_of};
 ghost use Rattle.wire_session.specs.CarriesOut.{CarriesOut, Carries, Called, ShowCarried, carried_by, still as stays};
 
 use machine_state::{Answered, Event, MachineState};
-use replies::{gave, none, reply_of};
-use wire_records::{DecodedCall, Header, Kind, Reply, ShowKind};
+use replies::{gave, reply_of};
+use wire_records::{Header, Kind, Reply, ShowKind};
 
-mod replies; // replies.rt: what an answer says, in numbers
+mod replies; // replies.rt: what an answer says
 mod access; // access.rt: size selection and access of an arguments record
 mod show; // show.rt: the records that show and load, and the page view
 mod texts; // texts.rt: the texts
@@ -24,19 +24,18 @@ mod report; // report.rt: the exposed places of the calls in a block
 pub use reset::reset_to;
 pub use show::words;
 
-// What a record leaves, beside the slices.
+// What a record leaves, beside the slices; what is no record has no reply.
 #[derive(Clone, Copy)]
 pub struct Carried {
     pub machine: MachineState,
     pub used: usize,
     pub event: Event,
-    pub reply: Reply,
+    pub reply: Option<Reply>,
 }
 
 // What a reset leaves: the machine, and how much of the slices is the store.
 #[derive(Clone, Copy)]
 pub struct Start {
-    pub formed: bool,
     pub machine: MachineState,
     pub slots: usize,
     pub length: usize,
@@ -47,20 +46,16 @@ pub struct Start {
 fn answered(res: Answered, given: usize) -> Carried
     ensures { result ≡ carried_by res given }
 {
-    let machine = res.machine;
-    let event = res.event;
-    let answer = res.answer;
-    let reply = reply_of(answer, given);
     Carried {
-        machine,
+        machine: res.machine,
         used: res.used,
-        event,
-        reply,
+        event: res.event,
+        reply: Some(reply_of(res.answer, given)),
     }
 }
 
 // A record that leaves the machine and the count.
-fn still(machine: MachineState, used: usize, reply: Reply) -> Carried
+fn still(machine: MachineState, used: usize, reply: Option<Reply>) -> Carried
     ensures { result ≡ stays machine used reply }
 {
     Carried {
@@ -73,19 +68,20 @@ fn still(machine: MachineState, used: usize, reply: Reply) -> Carried
 
 // What is no record: machine and count stay, and there is no answer.
 pub fn malformed(machine: MachineState, used: usize) -> Carried
-    ensures { result ≡ stays machine used no_reply }
+    ensures { result ≡ stays machine used None }
 {
-    still(machine, used, none())
+    still(machine, used, None)
 }
 
 // A record that is done and has nothing to tell: machine and count stay.
 pub fn done(machine: MachineState, used: usize) -> Carried
-    ensures { result ≡ stays machine used (reply_of (gives []) 0) }
+    ensures { result ≡ stays machine used (Some (reply_of (gives []) 0)) }
 {
-    still(machine, used, gave(0))
+    still(machine, used, Some(gave(0)))
 }
 
 // A tabled call.
+#[tactic(auto, unfolding(crate::specs::CarriesOut::Called))]
 fn tabled(
     header: Header,
     machine: MachineState,
@@ -98,14 +94,14 @@ fn tabled(
         result (store_of dir.new bytes.new result.used) lent.new }
 {
     let n = lent.len();
-    let decoded = wire_records::decode_call(header);
-    match decoded {
-        DecodedCall::Malformed => malformed(machine, used),
-        DecodedCall::Is(call) => answered(calls::perform(call, lent, machine, dir, bytes, used), n),
+    match wire_records::decode_call(header) {
+        None => malformed(machine, used),
+        Some(call) => answered(calls::perform(call, lent, machine, dir, bytes, used), n),
     }
 }
 
 // The records that show, load and report.
+#[tactic(auto, unfolding(crate::specs::CarriesOut::ShowCarried))]
 fn carry_show(
     kind: ShowKind,
     header: Header,
@@ -114,7 +110,7 @@ fn carry_show(
     dir: &[u64],
     bytes: &mut [u8],
     used: usize,
-) -> Reply
+) -> Option<Reply>
     ensures { ShowCarried kind header machine (store_of dir.now bytes.old used) lent.old
         result (store_of dir.now bytes.new used) lent.new }
 {
@@ -129,6 +125,7 @@ fn carry_show(
 }
 
 // What a record of a kind does, whatever its block. A reset, and what drive answers itself, is none here.
+#[tactic(auto, unfolding(crate::specs::CarriesOut::Carries))]
 fn carry_kind(
     kind: Kind,
     header: Header,
@@ -142,7 +139,6 @@ fn carry_kind(
         result (store_of dir.new bytes.new result.used) lent.new }
 {
     match kind {
-        Kind::Unknown => malformed(machine, used),
         Kind::Call(_) => tabled(header, machine, lent, dir, bytes, used),
         Kind::ReadByte => answered(machine.mem_read_byte(header.a, dir, bytes, used), 0),
         Kind::Access(asked) => still(machine, used, access::access(asked, header, lent)),
@@ -151,14 +147,15 @@ fn carry_kind(
             still(machine, used, reply)
         }
         Kind::Text(asked) => still(machine, used, texts::text(asked, header, machine, lent)),
-        Kind::Reset => malformed(machine, used),
-        Kind::ReadBack => malformed(machine, used),
-        Kind::Depends => malformed(machine, used),
+        Kind::Unknown | Kind::Reset | Kind::ReadBack | Kind::Depends => malformed(machine, used),
     }
 }
 
 // Carries out one record, of any kind but a reset. `lent` holds the bytes that follow the header, or the buffer of a call or a text.
 // A block that the kind does not have, or of another length than it asks for, makes the record malformed.
+// The machine, the store's two slices and its count are lent one by one, here as in calls and machine_state: a host has them so, and what
+// is no store is refused where it is reached (RULES 3.5, 4.8).
+#[tactic(auto, unfolding(crate::specs::CarriesOut::CarriesOut))]
 pub fn carry_out(
     header: Header,
     machine: MachineState,
@@ -173,6 +170,5 @@ pub fn carry_out(
     if !wire_records::block_fits(header) {
         return malformed(machine, used);
     }
-    let kind = header.kind;
-    carry_kind(kind, header, machine, lent, dir, bytes, used)
+    carry_kind(header.kind, header, machine, lent, dir, bytes, used)
 }

@@ -1,35 +1,19 @@
-// What an answer says, in numbers (docs/FORMAT.md, "An answer").
-ghost use Rattle.std.specs.Prelude.{◌≡◌, [], ◌∷◌};
-ghost use Rattle.utils.specs.Outcome.{gives, refuses, refuses_with};
-ghost use Rattle.machine_state.specs.Answers.{outcome_of, word, truth as truthful};
-ghost use Rattle.machine_state.specs.declared.Answer.TheVariants.{Refused};
-ghost use Rattle.wire_session.specs.Replies.{reply_of, no_reply};
+// What an answer says (docs/FORMAT.md, "An answer").
+ghost use Rattle.std.specs.Prelude.{◌≡◌, [], ◌∷◌, map};
+ghost use Rattle.utils.specs.Outcome.{gives, refuses};
+ghost use Rattle.machine_state.specs.Answers.{outcome_of, said_by, word};
+ghost use Rattle.wire_session.specs.Replies.{said_of, reply_of};
 
-use machine_state::{Answer, Refusal};
+use machine_state::{Answer, Given, Refusal};
 use wire_records::Reply;
-
-// The answer to what is no record.
-pub(crate) fn none() -> Reply
-    ensures { result ≡ no_reply }
-{
-    Reply {
-        formed: false,
-        refusal: 0,
-        shape: 0,
-        value: 0,
-        given: 0,
-    }
-}
 
 // No value, with so many of the lent bytes.
 pub(crate) fn gave(given: usize) -> Reply
     ensures { result ≡ reply_of (gives []) given }
 {
     Reply {
-        formed: true,
         refusal: 0,
-        shape: 0,
-        value: 0,
+        said: Given::Nothing,
         given,
     }
 }
@@ -39,10 +23,8 @@ pub(crate) fn value(value: u64, given: usize) -> Reply
     ensures { result ≡ reply_of (gives (word value ∷ [])) given }
 {
     Reply {
-        formed: true,
         refusal: 0,
-        shape: 1,
-        value,
+        said: Given::Word(value),
         given,
     }
 }
@@ -52,47 +34,19 @@ pub(crate) fn refused(refusal: u64, given: usize) -> Reply
     ensures { result ≡ reply_of (refuses refusal) given }
 {
     Reply {
-        formed: true,
         refusal,
-        shape: 0,
-        value: 0,
+        said: Given::Nothing,
         given,
     }
 }
 
-// A refusal that says a number besides its own.
-fn refused_with(refusal: u64, said: u64, given: usize) -> Reply
-    ensures { result ≡ reply_of (refuses_with refusal (word said ∷ [])) given }
+// What a refusal says besides its number: 6 how many slots lack, the others nothing.
+fn said_besides(why: Refusal) -> Given
+    ensures { result ≡ said_of (map word (said_by why)) }
 {
-    Reply {
-        formed: true,
-        refusal,
-        shape: 1,
-        value: said,
-        given,
-    }
-}
-
-// 6 says how many slots lack, the others nothing.
-fn refused_for(why: Refusal, given: usize) -> Reply
-    ensures { result ≡ reply_of (outcome_of (Refused why)) given }
-{
-    let number = why.number();
-    if number == 6 {
-        return refused_with(6, why.lacking() as u64, given);
-    }
-    refused(number, given)
-}
-
-fn truth(truth: bool, given: usize) -> Reply
-    ensures { result ≡ reply_of (gives (truthful truth ∷ [])) given }
-{
-    Reply {
-        formed: true,
-        refusal: 0,
-        shape: 2,
-        value: truth as u64,
-        given,
+    match why {
+        Refusal::Memory(mmu::Refusal::NoRoom { lacking }) => Given::Word(u64::from(lacking)),
+        _ => Given::Nothing,
     }
 }
 
@@ -101,9 +55,15 @@ pub(crate) fn reply_of(answer: Answer, given: usize) -> Reply
     ensures { result ≡ reply_of (outcome_of answer) given }
 {
     match answer {
-        Answer::Done => gave(given),
-        Answer::Value(v) => value(v, given),
-        Answer::Truth(b) => truth(b, given),
-        Answer::Refused(why) => refused_for(why, given),
+        Ok(said) => Reply {
+            refusal: 0,
+            said,
+            given,
+        },
+        Err(why) => Reply {
+            refusal: why.number(),
+            said: said_besides(why),
+            given,
+        },
     }
 }

@@ -6,17 +6,17 @@ ghost use Rattle.exposed.specs.Reported.{verdict_outcome};
 ghost use Rattle.wire_session.specs.Replies.{reply_of};
 ghost use Rattle.wire_session.specs.Reports.{Reports, place_byte};
 
-use super::replies::{gave, none, refused};
+use super::replies::{gave, refused};
 use calls::Call;
-use exposed::{CallEntry, Verdict};
-use wire_records::{DecodedCall, Header, Reply};
+use exposed::TooManyCalls;
+use wire_records::{Header, Reply};
 
-fn reply(verdict: Verdict) -> Reply
+fn reply(verdict: Result<(), TooManyCalls>) -> Reply
     ensures { result ≡ reply_of (word_outcome (verdict_outcome verdict)) 182 }
 {
     match verdict {
-        Verdict::Listed => gave(182),
-        Verdict::TooManyCalls => refused(verdict.number(), 182),
+        Ok(()) => gave(182),
+        Err(why) => refused(why.number(), 182),
     }
 }
 
@@ -25,40 +25,27 @@ fn put_places(lent: &mut [u8], places: [bool; 182])
     requires { 182 ≤ length lent.old }
     ensures { lent.new ≡ filled lent.old 0 (place_byte places) 182 }
 {
-    let mut k: usize = 0;
-    while k < 182 {
-        lent[k] = places[k] as u8;
-        k += 1;
+    for (k, place) in places.iter().enumerate() {
+        lent[k] = u8::from(*place);
     }
 }
 
-// The report of the calls in the block, at most 64, with the count that the header states.
-pub(crate) fn exposed_report(header: Header, lent: &mut [u8]) -> Reply
+// The report of the calls in the block, at most 64, with the count that the header states. Of a count above 64 the report is refused: 65
+// calls are then as good as more.
+#[tactic(auto, unfolding(crate::specs::Reports::Reports))]
+pub(crate) fn exposed_report(header: Header, lent: &mut [u8]) -> Option<Reply>
     ensures { Reports header lent.old result lent.new }
 {
-    if 64 < header.length / 128 {
-        return none();
-    }
-    if header.length % 128 != 0 {
-        return none();
-    }
-    if lent.len() < 182 {
-        return none();
-    }
     let n = (header.length / 128) as usize;
-    let mut calls = [CallEntry { call: Call::Push }; 64];
-    let mut k: usize = 0;
-    while k < n {
-        let decoded = wire_records::decode_call(wire_records::header_in(lent, k));
-        let DecodedCall::Is(call) = decoded else {
-            return none();
-        };
-        calls[k] = CallEntry { call };
-        k += 1;
+    if 64 < n || header.length % 128 != 0 || lent.len() < 182 {
+        return None;
     }
-    let report = exposed::exposed_places(calls, header.a as usize);
-    let verdict = report.verdict;
-    let places = report.places;
-    put_places(lent, places);
-    reply(verdict)
+    let mut calls = [Call::Push; 65];
+    for k in 0..n {
+        calls[k] = wire_records::decode_call(wire_records::header_in(lent, k))?;
+    }
+    let count = header.a.min(65) as usize;
+    let report = exposed::exposed_places(&calls[..count]);
+    put_places(lent, report.places);
+    Some(reply(report.verdict))
 }

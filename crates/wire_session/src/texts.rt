@@ -1,105 +1,98 @@
 // The texts: a text's length, or its refusal; the whole buffer follows.
-ghost use Rattle.std.specs.Prelude.{◌≡◌};
+ghost use Rattle.std.specs.Prelude.{◌≡◌, Some};
 ghost use Rattle.machine_state.specs.Memory.{word_outcome};
 ghost use Rattle.text.specs.Answers.{text_outcome, text_is};
 ghost use Rattle.text_state.specs.Lines.{state_text};
 ghost use Rattle.wire_session.specs.Replies.{reply_of};
-ghost use Rattle.wire_session.specs.Texts.{Texts, asked, asks, operand_asked, arguments_asked, event_asked, plain_asked, register_asked};
+ghost use Rattle.wire_session.specs.Texts.{Texts, asked, operand_asked, arguments_asked, event_asked, plain_asked, register_asked};
 
-use super::replies::{none, refused, value};
-use instruction_set::{InstructionArgument, SomeArgument, SomeSize};
+use super::replies::{refused, value};
+use instruction_set::InstructionArgument;
 use machine_state::MachineState;
-use text::Text;
-use wire_records::{DecodedArguments, DecodedEvent, Header, Reply, TextKind};
+use text::Refusal;
+use wire_records::{Header, Reply, TextKind};
 
-fn reply(text: Text, given: usize) -> Reply
+// `size` and the report's `reply` do the same with another value and another refusal: one function of all would be given both by closures.
+fn reply(text: Result<usize, Refusal>, given: usize) -> Reply
     ensures { result ≡ reply_of (word_outcome (text_outcome text)) given }
 {
     match text {
-        Text::Length(length) => value(length as u64, given),
-        Text::Refused(why) => refused(why.number(), given),
+        Ok(length) => value(length as u64, given),
+        Err(why) => refused(why.number(), given),
     }
 }
 
-fn operand(header: Header, lent: &mut [u8]) -> Reply
+#[tactic(auto, unfolding(crate::specs::Texts::operand_asked))]
+fn operand(header: Header, lent: &mut [u8]) -> Option<Reply>
     ensures { Texts (operand_asked header) lent.old result lent.new }
 {
     let n = lent.len();
-    let given = wire_records::given_operand(header.first);
-    let SomeArgument::Present(argument) = given else {
-        return none();
-    };
-    let found = wire_numbers::size_at(header.size);
-    let SomeSize::Present(size) = found else {
-        return none();
-    };
-    reply(text::format(argument, size, lent), n)
+    let argument = wire_records::given_operand(header.first)?;
+    let size = wire_numbers::size_at(header.size)?;
+    Some(reply(text::format(argument, size, lent), n))
 }
 
 // The repeats do not show in the text: b and c are the buffer.
-fn arguments(header: Header, lent: &mut [u8]) -> Reply
+#[tactic(auto, unfolding(crate::specs::Texts::arguments_asked))]
+fn arguments(header: Header, lent: &mut [u8]) -> Option<Reply>
     ensures { Texts (arguments_asked header) lent.old result lent.new }
 {
     let n = lent.len();
-    let built = wire_records::decode_arguments(header, 0, 0);
-    match built {
-        DecodedArguments::Malformed => none(),
-        DecodedArguments::Is(arguments) => reply(text::arguments_text(arguments, lent), n),
-    }
+    let arguments = wire_records::decode_arguments(header, 0, 0)?;
+    Some(reply(text::arguments_text(arguments, lent), n))
 }
 
 fn state(machine: MachineState, lent: &mut [u8]) -> Reply
-    ensures { Texts (asks (text_is (state_text machine))) lent.old result lent.new }
+    ensures { Texts (Some (text_is (state_text machine))) lent.old (Some result) lent.new }
 {
     let n = lent.len();
     reply(text::state_text(machine, lent), n)
 }
 
-fn event(header: Header, lent: &mut [u8]) -> Reply
+#[tactic(auto, unfolding(crate::specs::Texts::event_asked))]
+fn event(header: Header, lent: &mut [u8]) -> Option<Reply>
     ensures { Texts (event_asked header) lent.old result lent.new }
 {
     let n = lent.len();
-    let found = wire_records::decode_event(header.first);
-    match found {
-        DecodedEvent::Malformed => none(),
-        DecodedEvent::Is(event) => reply(text::event_text(event, lent), n),
-    }
+    let event = wire_records::decode_event(header.first)?;
+    Some(reply(text::event_text(event, lent), n))
 }
 
-fn plain(header: Header, lent: &mut [u8]) -> Reply
+#[tactic(auto, unfolding(crate::specs::Texts::plain_asked))]
+fn plain(header: Header, lent: &mut [u8]) -> Option<Reply>
     ensures { Texts (plain_asked header) lent.old result lent.new }
 {
     let n = lent.len();
-    let given = wire_records::given_operand(header.first);
-    match given {
-        SomeArgument::Absent => none(),
-        SomeArgument::Present(argument) => reply(text::argument_text(argument, lent), n),
-    }
+    let argument = wire_records::given_operand(header.first)?;
+    Some(reply(text::argument_text(argument, lent), n))
 }
 
-fn register(header: Header, lent: &mut [u8]) -> Reply
+#[tactic(auto, unfolding(crate::specs::Texts::register_asked))]
+fn register(header: Header, lent: &mut [u8]) -> Option<Reply>
     ensures { Texts (register_asked header) lent.old result lent.new }
 {
     let n = lent.len();
-    let given = wire_records::given_operand(header.first);
-    let SomeArgument::Present(argument) = given else {
-        return none();
-    };
-    match argument {
-        InstructionArgument::Immediate { .. } => none(),
-        InstructionArgument::Register { register } => reply(text::register_text(register, lent), n),
-        InstructionArgument::EffectiveAddress { .. } => none(),
+    match wire_records::given_operand(header.first)? {
+        InstructionArgument::Register { register } => {
+            Some(reply(text::register_text(register, lent), n))
+        }
+        _ => None,
     }
 }
 
 // The text that a record asks for.
-pub(crate) fn text(kind: TextKind, header: Header, machine: MachineState, lent: &mut [u8]) -> Reply
+pub(crate) fn text(
+    kind: TextKind,
+    header: Header,
+    machine: MachineState,
+    lent: &mut [u8],
+) -> Option<Reply>
     ensures { Texts (asked kind header machine) lent.old result lent.new }
 {
     match kind {
         TextKind::OperandText => operand(header, lent),
         TextKind::ArgumentsText => arguments(header, lent),
-        TextKind::StateText => state(machine, lent),
+        TextKind::StateText => Some(state(machine, lent)),
         TextKind::EventText => event(header, lent),
         TextKind::PlainText => plain(header, lent),
         TextKind::RegisterText => register(header, lent),

@@ -1,24 +1,25 @@
 -- One turn of the loop that writes page by page: how a part joins those before it, and that there is room for it; and a write within one
 -- page that has a slot, which is one part. The idea: a part is `written` from the function "byte k of the access", so that parts end to end
 -- are one (store: Slot.written-add).
-use mathlib.Core.Path.{◌≡◌, sym, ap, ◌∙◌}
+use Rattle.std.specs.Prelude.{Some, None}
+use mathlib.Core.Path.{◌≡◌, refl, sym, ap, ◌∙◌}
 use mathlib.Core.List.{List}
-use Prim.Native.Nat.{ℕ, suc, ◌+◌, ◌-◌, ◌*◌, ◌/◌, ◌%◌, ◌<◌, ◌≤◌}
+use Prim.Native.Nat.{ℕ, zero, suc, ◌+◌, ◌-◌, ◌*◌, ◌/◌, ◌%◌, ◌<◌, ◌≤◌}
 use native.Mathlib.Nat.{zero-add}
 use native.Mathlib.Omega.{arith}
-use lib.ListN.{length}
+use lib.ListN.{length, take, drop}
+use Rattle.std.proofs.lemmas.List.{length-take-le, length-drop, get_or-take, get_or-drop}
 use Rattle.byte_runs.specs.Runs.{filled, copied_from}
-use Rattle.store.specs.Store.{Store, store_of, pages_in_use, found_in, slot_taken, written, touched, absent_of}
-use Rattle.store.specs.Facts.{PagePart, Reached}
-use Rattle.store.specs.declared.Found.TheVariants.{At, Nothing}
+use Rattle.store.specs.Store.{Store, store_of, pages_in_use, found_in, slot_taken, with_page, written, touched, absent_of}
+use Rattle.store.specs.Facts.{IsStore, Room, PagePart, Reached}
 use Rattle.writes.specs.Writes.{byte_of}
 use Rattle.writes.specs.Private.{Fits, Ready}
 use Rattle.byte_runs.proofs.Filled.{filled_ext}
-use Rattle.store.proofs.Slot.{room_missing, written_here, written_missing, written_add}
+use Rattle.store.proofs.Slot.{room_missing, written_here, written_with, written_missing, written_add}
 use Rattle.store.proofs.Growth.{written_count, absent_upto, room_at, still}
 
 -- ---- a write within one page that has a slot is one run of bytes
-pub part_whole : (s : Store) (p i n : ℕ) (d b : List ℕ) → found_in (pages_in_use s) (p / 4096) ≡ At i → p % 4096 + n ≤ 4096
+pub part_whole : (s : Store) (p i n : ℕ) (d b : List ℕ) → found_in (pages_in_use s) (p / 4096) ≡ Some i → p % 4096 + n ≤ 4096
     → b ≡ filled s.bytes (4096 * i + p % 4096) (copied_from d 0) n → store_of s.dir b s.used ≡ written s p (byte_of d) n
 part_whole s p i n d b e h eb =
     let q : 4096 * (p / 4096) + p % 4096 ≡ p = omega arith in
@@ -29,11 +30,11 @@ part_whole s p i n d b e h eb =
 
 -- ---- what `write_part` asks and gives
 module _ (s : Store) (g off n from len : ℕ) (r : Ready s g off n from len) where
-  pub part_at : (i : ℕ) (u : ℕ → ℕ) (b : List ℕ) → found_in (pages_in_use s) g ≡ At i → b ≡ filled s.bytes (4096 * i + off) u n
+  pub part_at : (i : ℕ) (u : ℕ → ℕ) (b : List ℕ) → found_in (pages_in_use s) g ≡ Some i → b ≡ filled s.bytes (4096 * i + off) u n
       → store_of s.dir b s.used ≡ written s (4096 * g + off) u n
   part_at i u b e eb = ap (λ (l : List ℕ). store_of s.dir l s.used) eb ∙ sym (written_here s g i off u n e r.inside)
 
-  pub part_new : (u : ℕ → ℕ) (t : Store) (b : List ℕ) → found_in (pages_in_use s) g ≡ Nothing → t ≡ slot_taken s g
+  pub part_new : (u : ℕ → ℕ) (t : Store) (b : List ℕ) → found_in (pages_in_use s) g ≡ None → t ≡ slot_taken s g
       → b ≡ filled t.bytes (4096 * s.used + off) u n
       → store_of t.dir b t.used ≡ written s (4096 * g + off) u n
   part_new u t b e et eb =
@@ -68,3 +69,37 @@ ready_part s p f len g off done n h r lt q =
 pub write_step : (s t u : Store) (p : ℕ) (d : List ℕ) (g off done n : ℕ) → 4096 * g + off ≡ p + done → t ≡ written s p (byte_of d) done
     → u ≡ written t (4096 * g + off) (copied_from d done) n → u ≡ written s p (byte_of d) (done + n)
 write_step s t u p d g off done n e et eu = eu ∙ rw (e, et) (written_add s p (byte_of d) done n)
+
+-- ---- a part as the code gives it: a slice of its own
+written_ext : (s : Store) (p : ℕ) (f g : ℕ → ℕ) (n : ℕ) → ((k : ℕ) → k < n → f k ≡ g k) → written s p f n ≡ written s p g n
+unfolding written
+written_ext s p f g zero h = refl
+written_ext s p f g (suc n) h = rw (written_ext s p f g n (λ k lt. h k (omega arith)), h n (omega arith))
+
+written_after : (s : Store) → IsStore s → (g off : ℕ) (f : ℕ → ℕ) (n : ℕ) → Room s g → 1 ≤ n → off + n ≤ 4096
+    → written (with_page s g) (4096 * g + off) f n ≡ written s (4096 * g + off) f n
+written_after s h g off f zero r o b = absurd (omega arith)
+written_after s h g off f (suc n) r o b = sym (written_with s h g off f n r b)
+
+-- the bytes d go to the slot of their page, which the page has or took
+pub part_put : (s t : Store) (g slot off : ℕ) (d b : List ℕ) → IsStore s → Room s g → 1 ≤ length d → off + length d ≤ 4096
+    → t ≡ with_page s g → found_in (pages_in_use t) g ≡ Some slot → b ≡ filled t.bytes (4096 * slot + off) (copied_from d 0) (length d)
+    → store_of t.dir b t.used ≡ written s (4096 * g + off) (byte_of d) (length d)
+part_put s t g slot off d b h r o i et ef eb =
+    let same = filled_ext t.bytes (4096 * slot + off) (copied_from d 0) (byte_of d) (length d) (λ k lt. rw (zero-add k)) in
+    ap (λ (l : List ℕ). store_of t.dir l t.used) (eb ∙ same)
+    ∙ sym (written_here t g slot off (byte_of d) (length d) ef i)
+    ∙ ap (λ (x : Store). written x (4096 * g + off) (byte_of d) (length d)) et
+    ∙ written_after s h g off (byte_of d) (length d) r o i
+
+-- one part more; k is how the code gives its length
+pub write_more : (s t u : Store) (p : ℕ) (d : List ℕ) (g off done n k : ℕ) → k ≡ n → done + n ≤ length d → 4096 * g + off ≡ p + done
+    → t ≡ written s p (byte_of d) done
+    → u ≡ written t (4096 * g + off) (byte_of (take k (drop done d))) (length (take k (drop done d)))
+    → u ≡ written s p (byte_of d) (done + n)
+write_more s t u p d g off done n k q r e et eu =
+    let size : length (take n (drop done d)) ≡ n = length-take-le n (drop done d) (omega (arith, length-drop done d)) in
+    let part = rw (q, size) at eu in
+    write_step s t u p d g off done n e et
+    (part ∙ written_ext t (4096 * g + off) (byte_of (take n (drop done d))) (copied_from d done) n
+    (λ j lt. get_or-take n (drop done d) j 0 lt ∙ get_or-drop done d j 0))

@@ -1,6 +1,14 @@
 -- `plus` gives `added`: its steps are those of the law `plus_is`. Assumes nothing.
+use Rattle.std.proofs.Common.{◌≡◌, Bool, true, false, refl}
+use Rattle.std.specs.Int.{from_bool}
+use Rattle.fields.specs.FlagBits.{bool_bit}
 use Rattle.arithmetic.proofs.Adding.{plus_is}
 use Rattle.arithmetic.proofs.plus.Goals as goal
+
+-- a flag as a number is std's
+flag_is : (b : Bool) → from_bool b ≡ bool_bit b
+flag_is true = refl
+flag_is false = refl
 
 pub returns : goal.returns
 returns c =
@@ -11,10 +19,9 @@ returns c =
       c.sign_bit.ensures,
       c.passes.ensures,
       c.cut_to-value.ensures,
-      c.wrapping_add_u64-2.ensures.value,
-      c.one_if.ensures,
+      c.from.ensures,
+      flag_is c.args.carry,
       c.cut_to-partial.ensures,
-      c.wrapping_add_u64.ensures.value,
       c.cut_to-y.ensures,
       c.cut_to-x.ensures,
     )

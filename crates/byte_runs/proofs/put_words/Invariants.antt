@@ -1,14 +1,8 @@
--- `put_words` gives `FilledIf`: one word more with each turn (`word_more`). Assumes nothing.
+-- `put_words` gives `FilledIf`: one word more with each turn. Assumes nothing.
 use mathlib.Core.Path.{◌≡◌}
-use Prim.Native.Nat.{◌+◌, ◌*◌, ◌≤◌, ◌-◌}
-use lib.ListN.{length}
+use Prim.Native.Nat.{◌*◌}
 use Rattle.byte_runs.specs.Runs.{filled, lane_in}
 use Rattle.byte_runs.proofs.put_words.Given as goal
 
 abbrev pub invariant-loop-k : goal.invariant-loop-k
-invariant-loop-k l =
-    (l.k ≤ length l.words) × (l.at + 8 * length l.words ≤ length l.initial.out) × (length l.out ≡ length l.initial.out)
-    × (l.out ≡ filled l.initial.out l.at (lane_in l.words) (8 * l.k))
-
-abbrev pub decreases-loop-k : goal.decreases-loop-k
-decreases-loop-k l = length l.words - l.k
+invariant-loop-k l = l.out ≡ filled l.fn.out l.at (lane_in l.words) (8 * l.k)

@@ -1,17 +1,14 @@
--- `word_at` gives `word_in`: a whole word, or 0 where there is no room for one. Assumes nothing.
-use mathlib.Core.Path.{sym, ◌∙◌}
-use Rattle.byte_runs.specs.Runs.{word_in}
-use Rattle.byte_runs.proofs.Puts.{room_le}
+-- `word_at` gives `word_in`: the eight bytes of a part, as a word. Assumes nothing.
+use mathlib.Core.Path.{◌≡◌, sym, ap, ◌∙◌}
+use Prim.Native.Nat.{ℕ, ◌+◌, ◌-◌}
+use native.Mathlib.Omega.{arith}
+use lib.ListN.{take, drop}
+use Rattle.byte_runs.proofs.Puts.{room_le, word_there}
 use Rattle.byte_runs.proofs.word_at.Goals as goal
 
-pub word_from-requires : goal.word_from-requires
-word_from-requires c = room_le _ _ _ (sym c.has_room.ensures ∙ c.if-has_room.true)
-
-pub returns-then-has_room : goal.returns-then-has_room
-unfolding word_in
-returns-then-has_room c =
-    rw (sym c.has_room.ensures ∙ c.if-has_room.true) c.word_from.ensures
-
-pub returns-else-has_room : goal.returns-else-has_room
-unfolding word_in
-returns-else-has_room c = rw (sym c.has_room.ensures ∙ c.if-has_room.false)
+pub returns : goal.returns
+returns c =
+    let a = c.args in
+    let n : a.at + 8 - a.at ≡ 8 = omega arith in
+    word_there _ _ _ _ (room_le _ _ _ (sym c.has_room.ensures ∙ c.if-not-has_room.false))
+    (c.copy_from_slice.ensures.after ∙ ap (λ (k : ℕ). take k (drop a.at a.bytes.now)) n) c.bytes_to_word.ensures

@@ -1,52 +1,36 @@
--- `exposed::exposed_places` meets its contract. The invariant: the answers are those of the calls from k on (`Listing`); the measure is k.
+-- `exposed::exposed_places` meets its contract: each turn goes through one call more, and in the end through all (`Listing`).
 -- Assumes nothing.
-use lib.ListN.{length}
-use native.Mathlib.Omega.{arith}
-use Rattle.exposed.proofs.Marking.{Listing, listing_none, listing_more, listing_done, listing_refused, listing_long}
-use Rattle.effects.proofs.Inside.{reads_inside, rewrites_inside}
-use borrow.Author.Rules.{rules}
+use Rattle.std.proofs.Common.{rules, arith}
+use Rattle.std.proofs.lemmas.Iterator.Consumers.{YieldsList-end}
+use Rattle.std.proofs.lemmas.Iterator.Adapters.{YieldsList-from_rev_slice}
 use Rattle.effects.specs.Rows.{Inside}
-use mathlib.Core.Path.{◌≡◌, refl, subst, ◌∙◌}
-use Prim.Native.Nat.{ℕ}
+use Rattle.effects.proofs.Inside.{reads_inside, rewrites_inside}
+use Rattle.exposed.proofs.Marking.{listing_none, listing_more, listing_step, listing_all, listing_done, listing_refused}
 use Rattle.exposed.proofs.exposed_places.Goals as goal
 
-pub offset_bounds-calls-k : goal.offset_bounds-calls-k
-offset_bounds-calls-k c = omega arith
+pub returns-then-calls-gt-MOST : goal.returns-then-calls-gt-MOST
+returns-then-calls-gt-MOST c = listing_refused c.args.calls.now (omega arith)
 
-pub bounds-calls-k : goal.bounds-calls-k
-bounds-calls-k c = omega arith
-
-pub loop-k-smaller : goal.loop-k-smaller
-loop-k-smaller c = omega arith
-
-pub returns-then-count-gt64 : goal.returns-then-count-gt64
-returns-then-count-gt64 c = listing_refused c.args.calls c.args.count (omega arith)
-
-pub loop-k-init : goal.loop-k-init
-loop-k-init c = listing_none c.args.calls c.args.count
+pub loop-call-init : goal.loop-call-init
+loop-call-init c = listing_none
 
 pub mark_all-requires : goal.mark_all-requires
 mark_all-requires c =
     let w : Inside c.rewrites_of-rewrites.result = rw c.rewrites_of-rewrites.ensures (rewrites_inside _) in
     let r : Inside c.reads_of-reads.result = rw c.reads_of-reads.ensures (reads_inside _) in
-    (listing_long c.loop-k.invariant, search rules)
+    search rules
 
-pub mark_all-requires-in-loop-k : goal.mark_all-requires-in-loop-k
-mark_all-requires-in-loop-k c = (
-  c.mark_all.ensures.long ∙ listing_long c.loop-k.invariant,
-  rw c.reads_of-reads.ensures (reads_inside _),
-)
+pub mark_all-requires-in-loop-call : goal.mark_all-requires-in-loop-call
+mark_all-requires-in-loop-call c = rw c.reads_of-reads.ensures (reads_inside _)
 
-pub loop-k-preserved : goal.loop-k-preserved
-loop-k-preserved c =
-    let long : length c.args.calls ≡ 64 = search rules in
-    listing_more c.args.calls c.args.count c.loop-k.on _ _ c.loop-k.k _ _
-    c.reads_of-reads.result c.rewrites_of-rewrites.result (omega arith) (omega arith) refl
-    c.reads_of-reads.ensures c.rewrites_of-rewrites.ensures c.mark_all.ensures
-    c.mark_all-in-loop-k.ensures c.loop-k.invariant
+pub loop-call-preserved : goal.loop-call-preserved
+loop-call-preserved c =
+    listing_step (λ r. r.now) c.loop-call.yielded c.in-Some.call _
+    (listing_more c.in-Some.call.now _ c.loop-call.on _ _ _ _ c.reads_of-reads.ensures c.rewrites_of-rewrites.ensures c.mark_all.ensures
+    c.mark_all-in-loop-call.ensures c.loop-call.invariant)
 
 pub returns : goal.returns
 returns c =
-    let e : c.loop-k.k ≡ 0 = omega arith in
-    listing_done c.args.calls c.args.count c.loop-k.on (omega arith)
-    (subst (λ (k : ℕ). Listing c.args.calls c.args.count c.loop-k.on k) e c.loop-k.invariant)
+    let all = YieldsList-end (YieldsList-from_rev_slice c.args.calls.now cc) c.loop-call.yielded _ c.loop-call.yielded_by _ _ c.in-None.is
+    c.next.ensures.steps in
+    listing_done c.args.calls.now c.loop-call.on (omega arith) (listing_all _ c.args.calls.now _ all.0 c.loop-call.invariant)

@@ -1,10 +1,7 @@
--- `exposed::exposed_places` meets its contract. The invariant: the answers are those of the calls from k on (`Listing`); the measure is k.
--- Assumes nothing.
+-- The answers so far are those of the calls that were gone through, the last of all calls first.
+use Rattle.std.proofs.Common.{map, reverse}
 use Rattle.exposed.proofs.Marking.{Listing}
 use Rattle.exposed.proofs.exposed_places.Given as goal
 
-abbrev pub invariant-loop-k : goal.invariant-loop-k
-invariant-loop-k l = Listing l.calls l.count l.on l.k
-
-abbrev pub decreases-loop-k : goal.decreases-loop-k
-decreases-loop-k l = l.k
+abbrev pub invariant-loop-call : goal.invariant-loop-call
+invariant-loop-call l = Listing (reverse (map (λ r. r.now) l.yielded)) l.on

@@ -7,29 +7,14 @@ use mathlib.Core.Path.{◌≡◌, subst}
 use Prim.Native.Nat.{◌-◌, ℕ}
 use Rattle.exposed.proofs.mark_from.Goals as goal
 
-pub loop-p-smaller : goal.loop-p-smaller
-loop-p-smaller c = omega arith
-
 pub loop-p-init : goal.loop-p-init
-loop-p-init c = (
-  omega arith,
-  omega arith,
-  c.requires.1,
-  mark_none c.args.on.now c.args.start c.args.value,
-)
+loop-p-init c = mark_none c.args.on.now c.args.start c.args.value
 
 pub loop-p-preserved : goal.loop-p-preserved
-loop-p-preserved c = (
-  omega arith,
-  omega arith,
-  c.loop-p.invariant.2,
-  mark_more c.args.on.now c.loop-p.on c.args.start c.loop-p.p c.args.value
-      c.loop-p.invariant.0 (omega (arith, c.requires.0)) c.loop-p.invariant.3,
-)
+loop-p-preserved c =
+    mark_more c.args.on.now c.loop-p.on c.args.start c.loop-p.p c.args.value (omega arith) (omega arith) c.loop-p.invariant
 
 pub returns : goal.returns
 returns c =
     let e : c.loop-p.p - c.args.start ≡ c.args.count = omega arith in
-    subst (λ (n : ℕ). Marked c.args.on.now c.loop-p.on (in_span (span c.args.start n))
-    c.args.value)
-    e c.loop-p.invariant.3
+    subst (λ (n : ℕ). Marked c.args.on.now c.loop-p.on (in_span (span c.args.start n)) c.args.value) e c.loop-p.invariant

@@ -3,5 +3,4 @@ use Rattle.neighbours.proofs.Test.{spans_test}
 use Rattle.neighbours.proofs.spans_meet.Goals as goal
 
 pub returns : goal.returns
-returns c =
-    rw (c.later-start.ensures, c.earlier-end.ensures) (spans_test c.args.a c.args.b c.requires.0)
+returns c = rw (c.max-start.ensures, c.min-end.ensures) (spans_test c.args.a c.args.b c.requires.0)

@@ -1,26 +1,13 @@
--- `is_zero_page` gives `zero_page`: what is left of the page is all zeros exactly if the whole is.
-use mathlib.Core.Path.{sym, ◌∙◌}
-use mathlib.Core.Bool.{true, false}
-use native.Mathlib.Omega.{arith}
-use Rattle.store.proofs.Zeros.{zero_step, zero_stop, zero_end, page_short, page_full}
+-- `is_zero_page` gives `zero_page`: the length is tested, and then each byte.
+use Rattle.std.proofs.Common.{eqb, rules, tests}
+use Rattle.std.proofs.lemmas.Iterator.{YieldsList-from_slice}
+use Rattle.std.proofs.lemmas.Iterator.Search.{all_from_yields_List}
+use Rattle.store.specs.View.{zero_page}
+use borrow.Author.Tests.{eq-eqb}
 use Rattle.store.proofs.is_zero_page.Goals as goal
 
-pub returns-then-z-ne-PAGE_SIZE : goal.returns-then-z-ne-PAGE_SIZE
-returns-then-z-ne-PAGE_SIZE c = sym (page_short _ c.if-z-ne-PAGE_SIZE.true)
-
-pub returns-then-z-k-ne0 : goal.returns-then-z-k-ne0
-returns-then-z-k-ne0 c =
-    sym (page_full c.args.z.now false c.if-z-ne-PAGE_SIZE.false
-    (c.loop-k.invariant.1
-    ∙ zero_stop c.args.z.now c.loop-k.k c.loop-k-test.true c.if-z-k-ne0.true))
-
-pub loop-k-preserved : goal.loop-k-preserved
-loop-k-preserved c = (
-  omega arith,
-  c.loop-k.invariant.1 ∙ zero_step c.args.z.now c.loop-k.k c.loop-k-test.true c.if-z-k-ne0.false,
-)
-
-pub returns : goal.returns
-returns c =
-    sym (page_full c.args.z.now true c.if-z-ne-PAGE_SIZE.false
-    (c.loop-k.invariant.1 ∙ zero_end c.args.z.now c.loop-k.k c.loop-k-test.false))
+pub returns-then-z-eq-PAGE_SIZE : goal.returns-then-z-eq-PAGE_SIZE
+unfolding zero_page
+returns-then-z-eq-PAGE_SIZE c =
+    rw (eq-eqb _ _ c.if-z-eq-PAGE_SIZE.true)
+    (all_from_yields_List (λ x. eqb x 0) _ _ _ c.all.ensures.ran (YieldsList-from_slice c.args.z.now cc) (λ x b q k. search (rules, tests)))

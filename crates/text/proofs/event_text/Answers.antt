@@ -1,12 +1,10 @@
--- `event_text` meets its contract: the line is measured, and then written or refused. Assumes nothing.
-use Rattle.text.proofs.Answering.{too_long, in_room}
+-- `event_text` meets its contract: the writer puts the event's line. Assumes nothing.
+use borrow.Author.Rules.{rules}
 use native.Mathlib.Omega.{arith}
+use Rattle.text_pieces.proofs.Writing.{from_zero}
+use Rattle.text_state.specs.Lines.{event_text}
 use Rattle.text.proofs.event_text.Goals as goal
-
-pub returns-then-out-n : goal.returns-then-out-n
-returns-then-out-n c =
-    too_long c.put_event-n.ensures (omega arith) c.if-out-n.true
 
 pub returns : goal.returns
 returns c =
-    in_room c.put_event-n.ensures (omega arith) c.if-out-n.false c.put_event.ensures
+    c.measured.ensures (event_text c.args.event) (from_zero (omega arith) c.put_event-length.ensures, λ d d' r k. (21, search rules))

@@ -1,12 +1,10 @@
--- `state_text` meets its contract: the text is measured, and then written or refused. Assumes nothing.
-use Rattle.text.proofs.Answering.{too_long, in_room}
+-- `state_text` meets its contract: the writer puts the lines of the state. Assumes nothing.
+use borrow.Author.Rules.{rules}
 use native.Mathlib.Omega.{arith}
+use Rattle.text_pieces.proofs.Writing.{from_zero}
+use Rattle.text_state.specs.Lines.{state_text}
 use Rattle.text.proofs.state_text.Goals as goal
-
-pub returns-then-out-n : goal.returns-then-out-n
-returns-then-out-n c =
-    too_long c.put_state-n.ensures (omega arith) c.if-out-n.true
 
 pub returns : goal.returns
 returns c =
-    in_room c.put_state-n.ensures (omega arith) c.if-out-n.false c.put_state.ensures
+    c.measured.ensures (state_text c.args.machine) (from_zero (omega arith) c.put_state-length.ensures, λ d d' r k. (577, search rules))

@@ -3,9 +3,5 @@ use Rattle.text_pieces.proofs.Writing.{nothing}
 use native.Mathlib.Omega.{arith}
 use Rattle.text_operands.proofs.put_base.Goals as goal
 
-pub returns-in-Absent : goal.returns-in-Absent
-returns-in-Absent c = rw c.in-Absent.is (nothing (omega arith))
-
-pub returns-in-Present : goal.returns-in-Present
-returns-in-Present c =
-    rw c.in-Present.is c.put_register.ensures
+pub returns-in-None : goal.returns-in-None
+returns-in-None c = rw c.in-None.is (nothing (omega arith))

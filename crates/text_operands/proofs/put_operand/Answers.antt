@@ -1,5 +1,6 @@
 -- `put_operand` meets its contract, by cases on the operand. Assumes nothing.
 use Rattle.text_operands.proofs.Displacement.{whole}
+use borrow.Author.Rules.{rules}
 use native.Mathlib.Omega.{arith}
 use Rattle.text_pieces.proofs.Writing.{◌then◌, widen}
 use Rattle.text_operands.proofs.put_operand.Goals as goal
@@ -10,13 +11,7 @@ returns-in-Immediate c =
     (widen (omega arith)
     (c.put_bytes-o.ensures then (rw c.cut_to.ensures at c.put_hex.ensures)))
 
-pub returns-in-Register : goal.returns-in-Register
-returns-in-Register c =
-    rw c.in-Register.is (widen (omega arith) c.put_register.ensures)
-
 pub returns-in-EffectiveAddress : goal.returns-in-EffectiveAddress
 returns-in-EffectiveAddress c =
     rw c.in-EffectiveAddress.is
-    ((rw (whole _ (record { sfits = c.in-EffectiveAddress.known_told-in-EffectiveAddress-1-own.given.1.1.1.0.1 }))
-    at c.put_displacement-o.ensures) then
-    c.put_address.ensures)
+    ((rw (whole c.in-EffectiveAddress.displacement (search rules)) at c.put_displacement-o.ensures) then c.put_address.ensures)

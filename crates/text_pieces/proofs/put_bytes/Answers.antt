@@ -1,32 +1,23 @@
--- `put_bytes` meets its contract. The loop's invariant: what is left to write is the text from byte k on. Assumes nothing.
+-- `put_bytes` meets its contract: one byte more is written, and at the end none is left. Assumes nothing.
 use mathlib.Core.List.{[], ◌∷◌, ◌++◌}
 use mathlib.Core.Path.{◌≡◌}
 use Prim.Native.Nat.{◌+◌}
 use native.Mathlib.Numerals.{add-one}
 use native.Mathlib.Omega.{arith}
-use borrow.Author.Rules.{rules}
 use lib.ListN.{length, drop, get_or}
 use lib.Seq.{drop-cons, drop-length}
-use Rattle.text_pieces.proofs.Writing.{begin, onward, finish, same_long}
+use Rattle.text_pieces.proofs.Writing.{onward, finish}
 use Rattle.text_pieces.proofs.put_bytes.Goals as goal
 
-pub loop-k-init : goal.loop-k-init
-loop-k-init c = (begin (omega arith), omega arith)
-
-pub loop-k-preserved : goal.loop-k-preserved
-loop-k-preserved c =
-    let l = c.loop-k in
+pub loop-b-preserved : goal.loop-b-preserved
+loop-b-preserved c =
+    let k = c.loop-b.b-index in
     let s = c.args.s.now in
-    let e : drop l.k s ≡ (get_or s l.k 0 ∷ []) ++ drop (l.k + 1) s =
-    rw add-one (drop-cons s l.k 0 (search rules)) in
-    (onward (rw e at l.invariant.0) c.put_byte-o.ensures, search rules)
-
-pub shape_of-out : goal.shape_of-out
-shape_of-out c = same_long c.loop-k.invariant.0
+    let e : drop k s ≡ (get_or s k 0 ∷ []) ++ drop (k + 1) s = rw add-one (drop-cons s k 0 (omega arith)) in
+    onward (rw e at c.loop-b.invariant) c.put_byte-o.ensures
 
 pub returns : goal.returns
 returns c =
-    let l = c.loop-k in
     let s = c.args.s.now in
-    let z : l.k ≡ length s = omega arith in
-    finish (rw (z, drop-length s) at l.invariant.0) (omega arith)
+    let z : c.loop-b.b-index ≡ length s = omega arith in
+    finish (rw (z, drop-length s) at c.loop-b.invariant) (omega arith)

@@ -2,7 +2,6 @@
 -- `write_counted`.
 use mathlib.Core.Path.{sym, ◌∙◌}
 use native.Mathlib.Omega.{arith}
-use borrow.Author.Tests.{not-true, not-false}
 use Rattle.byte_runs.proofs.Puts.{put_copied}
 use Rattle.store.proofs.Read.{sound_facts, slot_held}
 use Rattle.store.proofs.Absent.{slot_at}
@@ -11,29 +10,27 @@ use Rattle.writes.proofs.mem_write_phys.Goals as goal
 
 -- no store
 pub returns-then-not-is_store : goal.returns-then-not-is_store
-returns-then-not-is_store c = stored_none _ _ _ (sym c.is_store.ensures ∙ not-true _ c.if-not-is_store.true-raw)
+returns-then-not-is_store c = stored_none _ _ _ (sym c.is_store.ensures ∙ c.if-not-is_store.true)
 
 -- a slot that is found lies within the bytes
-pub overflow_mul-i : goal.overflow_mul-i
-overflow_mul-i c =
-    let h = sound_facts _ (sym c.is_store.ensures ∙ not-false _ c.if-not-is_store.false-raw) in
-    let w = slot_at _ _ _ _ (sym c.slot_of-found.ensures ∙ c.in-At.is) in
-    omega (arith, slot_held _ h _ _ w.1)
+pub overflow_mul-slot : goal.overflow_mul-slot
+overflow_mul-slot c =
+    let h = sound_facts _ (sym c.is_store.ensures ∙ c.if-not-is_store.false) in
+    let w = slot_held _ h _ _ (slot_at _ _ _ _ (sym c.in-Some.ensures)).1 in omega arith
 
-pub overflow_add-i : goal.overflow_add-i
-overflow_add-i c =
-    let h = sound_facts _ (sym c.is_store.ensures ∙ not-false _ c.if-not-is_store.false-raw) in
-    let w = slot_at _ _ _ _ (sym c.slot_of-found.ensures ∙ c.in-At.is) in
-    omega (arith, slot_held _ h _ _ w.1)
+pub overflow_add-slot : goal.overflow_add-slot
+overflow_add-slot c =
+    let h = sound_facts _ (sym c.is_store.ensures ∙ c.if-not-is_store.false) in
+    let w = slot_held _ h _ _ (slot_at _ _ _ _ (sym c.in-Some.ensures)).1 in omega arith
 
 pub write_counted-requires : goal.write_counted-requires
-write_counted-requires c = sound_facts _ (sym c.is_store.ensures ∙ not-false _ c.if-not-is_store.false-raw)
+write_counted-requires c = sound_facts _ (sym c.is_store.ensures ∙ c.if-not-is_store.false)
 
 -- into the slot of the one page
-pub returns-in-At : goal.returns-in-At
-returns-in-At c =
-    let h = sound_facts _ (sym c.is_store.ensures ∙ not-false _ c.if-not-is_store.false-raw) in
-    let q = sym c.slot_of-found.ensures ∙ c.in-At.is in
+pub returns-in-Some : goal.returns-in-Some
+returns-in-Some c =
+    let h = sound_facts _ (sym c.is_store.ensures ∙ c.if-not-is_store.false) in
+    let q = sym c.in-Some.ensures in
     let w = slot_at _ _ _ _ q in
     stored_here _ h _ _ c.args.«data».now _ q
     (put_copied c.args.«data».now _ c.copy.ensures (omega arith) (omega (arith, slot_held _ h _ _ w.1, w.0)))

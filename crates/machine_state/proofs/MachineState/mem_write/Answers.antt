@@ -5,6 +5,6 @@ use Rattle.machine_state.proofs.MachineState.mem_write.Goals as goal
 
 pub returns : goal.returns
 returns c =
-    rw (c.from_memory.ensures, c.event_shown-event.ensures)
+    rw (c.from_memory-answer.ensures, c.event_shown-event.ensures)
     (write_left c.args.self _ _ _ _ c.args.address c.args.«data».now _ _
     c.mem_write-written.ensures)

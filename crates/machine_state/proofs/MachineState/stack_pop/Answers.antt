@@ -8,5 +8,5 @@ pub returns : goal.returns
 unfolding popped
 returns c =
     let x = (get_or c.args.self.regs 4 0 + 8) % 2 ^ 64 in
-    rw (c.with_rsp.ensures, c.wrapping_add_u64.ensures.value)
+    rw c.with_rsp.ensures
     (rsp_after c.load-read.result _ _ [] x ∙ ap (λ r. rsp_if_accepted r x) c.load-read.ensures)

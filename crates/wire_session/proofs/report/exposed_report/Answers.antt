@@ -1,68 +1,52 @@
 -- `exposed_report` reports on the calls of the block's headers, if it holds nothing else: each turn lists one more. Assumes nothing.
-use Prim.Native.Nat.{◌/◌}
-use Rattle.wire_session.proofs.Replying.{no_record}
-use Rattle.wire_session.proofs.Reporting.{listed_more, listed_none, too_many, broken, too_short, is_whole, report_reply, report_bytes}
+use Rattle.std.specs.Prelude.{Some}
+use mathlib.Core.Path.{◌≡◌, refl, sym, ap, ◌∙◌}
 use native.Mathlib.Omega.{arith}
-use mathlib.Core.Path.{◌≡◌, refl, sym, ◌∙◌}
-use Rattle.wire_session.specs.Reports.{calls, calls_listed, Reports}
+use Prim.Native.Nat.{ℕ, ◌/◌}
+use lib.ListN.{length, take}
+use borrow.Author.Rules.{rules}
+use Rattle.std.proofs.lemmas.List.{take_min}
+use Rattle.exposed.specs.Reported.{report_answer, reported}
+use Rattle.wire_records.specs.declared.Reply.{Reply}
+use Rattle.wire_session.specs.Reports.{calls_listed, Reports}
+use Rattle.wire_session.proofs.Replying.{no_record}
+use Rattle.wire_session.proofs.Reporting.{listed_more, listed_none, is_whole, report_reply, report_bytes}
 use Rattle.wire_session.proofs.report.exposed_report.Goals as goal
-
-pub returns-then-header-gt64 : goal.returns-then-header-gt64
-unfolding Reports
-returns-then-header-gt64 c =
-    let a = c.args in
-    rw (too_many a.header a.lent.now c.if-header-gt64.true) (no_record c.none.ensures)
-
-pub returns-then-header-ne0 : goal.returns-then-header-ne0
-unfolding Reports
-returns-then-header-ne0 c =
-    let a = c.args in
-    rw (broken a.header a.lent.now c.if-header-gt64.false c.if-header-ne0.true) (no_record c.none-then-header-ne0.ensures)
-
-pub returns-then-lent-lt182 : goal.returns-then-lent-lt182
-unfolding Reports
-returns-then-lent-lt182 c =
-    let a = c.args in
-    rw (too_short a.header a.lent.now c.if-header-gt64.false c.if-header-ne0.false c.if-lent-lt182.true)
-    (no_record c.none-then-lent-lt182.ensures)
 
 pub loop-k-init : goal.loop-k-init
 unfolding calls_listed
-loop-k-init c = (omega arith, refl)
+loop-k-init c = refl
 
-pub returns-in_default : goal.returns-in_default
+pub returns-in_err-calls : goal.returns-in_err-calls
 unfolding Reports
-returns-in_default c =
+returns-in_err-calls c =
     let a = c.args in
     let m = c.loop-k in
-    let told = rw c.header_in.ensures at c.decode_call-decoded.ensures in
+    let told = rw c.header_in.ensures at c.decode_call.ensures in
     rw (
-      is_whole a.header a.lent.now c.if-header-gt64.false c.if-header-ne0.false c.if-lent-lt182.false,
-      listed_none a.lent.now m.k (a.header.length / 128) m.invariant.1 (sym told ∙ c.in_default.is)
-          (omega (arith, c.loop-k-test.true)),
+      is_whole a.header a.lent.now c.if-n-gt64.false c.if-header-ne0.false c.if-lent-lt182.false,
+      listed_none a.lent.now m.k (a.header.length / 128) m.invariant (sym told ∙ c.in_err-calls.was) (omega (arith, c.loop-k-test.true)),
     )
-    (no_record c.none-in_default.ensures)
+    (no_record c.from_residual.ensures)
 
 pub loop-k-preserved : goal.loop-k-preserved
 loop-k-preserved c =
-    let a = c.args in
-    let m = c.loop-k in
-    let told = rw c.header_in.ensures at c.decode_call-decoded.ensures in (
-      omega (arith, c.loop-k-test.true),
-      listed_more a.lent.now m.k m.invariant.1 (sym told ∙ c.in-Is.is),
-    )
+    let told = rw c.header_in.ensures at c.decode_call.ensures in
+    listed_more c.args.lent.now c.loop-k.k c.loop-k.invariant (sym told ∙ c.in_ok-calls.was)
 
 pub returns : goal.returns
 unfolding Reports
 returns c =
     let a = c.args in
     let m = c.loop-k in
-    let e : m.k ≡ a.header.length / 128 = omega (arith, c.loop-k-test.false, m.invariant.0) in
-    let all : calls_listed a.lent.now (a.header.length / 128) ≡ calls m.calls = rw e at m.invariant.1 in
-    rw (is_whole a.header a.lent.now c.if-header-gt64.false c.if-header-ne0.false c.if-lent-lt182.false, all)
+    let e : m.k ≡ a.header.length / 128 = omega (arith, c.loop-k-test.false) in
+    let all : calls_listed a.lent.now (a.header.length / 128) ≡ Some m.calls = rw e at m.invariant in
+    let long : length m.calls ≡ 65 = search rules in
+    let first : report_answer c.exposed_places-report.result ≡ reported (take a.header.a m.calls) =
+    c.exposed_places-report.ensures ∙ ap (λ (k : ℕ). reported (take k m.calls)) c.min-count.ensures
+    ∙ ap reported (rw long at (take_min a.header.a m.calls)) in
+    rw (is_whole a.header a.lent.now c.if-n-gt64.false c.if-header-ne0.false c.if-lent-lt182.false, all)
     (record {
-      reply = report_reply c.exposed_places-report.result m.calls a.header.a
-          c.exposed_places-report.ensures c.reply.ensures;
-      bytes = report_bytes a.lent.now c.exposed_places-report.result m.calls a.header.a
-          c.exposed_places-report.ensures c.put_places.ensures;
+      reply = report_reply c.exposed_places-report.result (take a.header.a m.calls) first (ap (λ (r : Reply). Some r) c.reply.ensures);
+      bytes = report_bytes a.lent.now c.exposed_places-report.result (take a.header.a m.calls) first c.put_places.ensures;
     })

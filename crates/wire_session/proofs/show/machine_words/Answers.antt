@@ -1,14 +1,12 @@
 -- `machine_words` gives the parents, then the three others. Assumes nothing.
-use mathlib.Core.Path.{refl}
-use Rattle.wire_session.proofs.Showing.{no_machine, machine_given}
+use Rattle.std.specs.Prelude.{Some}
 use borrow.Author.Rules.{rules}
+use mathlib.Core.Path.{ap}
+use Rattle.wire_records.specs.declared.Reply.{Reply}
+use Rattle.wire_session.proofs.Showing.{machine_given}
 use Rattle.wire_session.proofs.show.machine_words.Goals as goal
-
-pub returns-then-lent-lt200 : goal.returns-then-lent-lt200
-returns-then-lent-lt200 c =
-    no_machine c.args.machine c.if-lent-lt200.true c.none.ensures refl
 
 pub returns : goal.returns
 returns c =
     machine_given c.args.machine (search rules) c.if-lent-lt200.false c.put_words.ensures
-    c.put_words-2.ensures c.gave.ensures
+    c.put_words-2.ensures (ap (λ (r : Reply). Some r) c.gave.ensures)

@@ -1,8 +1,0 @@
--- `calls::address_answer` meets its contract: each arm is the definition's clause. Assumes nothing.
-use Rattle.calls.proofs.address_answer.Goals as goal
-
-pub returns-in-At : goal.returns-in-At
-returns-in-At c = rw c.in-At.is
-
-pub returns-in-Refused : goal.returns-in-Refused
-returns-in-Refused c = rw c.in-Refused.is

@@ -1,6 +1,0 @@
--- `pace::registers::sized_flags` is safe and ends: the turns are counted up. Assumes nothing.
-use Rattle.std.proofs.Common.{◌-◌}
-use Rattle.pace.proofs.registers.sized_flags.Given as goal
-
-abbrev pub decreases-loop-i : goal.decreases-loop-i
-decreases-loop-i l = l.turns - l.i

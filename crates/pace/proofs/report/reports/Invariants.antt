@@ -1,6 +1,0 @@
--- `pace::report::reports` is safe and ends: the turns are counted up. Assumes nothing.
-use Rattle.std.proofs.Common.{◌-◌}
-use Rattle.pace.proofs.report.reports.Given as goal
-
-abbrev pub decreases-loop-i : goal.decreases-loop-i
-decreases-loop-i l = l.turns - l.i

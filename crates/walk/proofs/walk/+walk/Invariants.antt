@@ -1,5 +1,0 @@
--- `walk` gives `walked`, by recursion: the measure is the level, which falls with each call.
-use Rattle.walk.proofs.walk.+walk.Given as goal
-
-abbrev pub decreases-walk : goal.decreases-walk
-decreases-walk l = l.level
