@@ -44,10 +44,11 @@ abbrev pub outcome_of : Result Given Refusal → Outcome Value
 outcome_of (Ok g) = gives (given_values g)
 outcome_of (Err r) = refuses_with (refusal_number r) (map word (said_by r))
 
+-- an answer by its parts (RULES 4.8): the machine, the count of slots in use, the event and what is answered; and of a call that leaves the
+-- machine as it is, with no event
 abbrev pub answered : MachineState → ℕ → Event → Result Given Refusal → Answered
 answered m u e a = record { machine = m; used = u; event = e; answer = a }
 
--- the machine as it is and no event
 abbrev pub finished : MachineState → ℕ → Result Given Refusal → Answered
 finished m u a = answered m u Quiet a
 

@@ -1,14 +1,14 @@
 -- What numbers mean: the 32 bits of a displacement read as signed are it again, and a scale is a byte. Assumes nothing.
 use mathlib.Core.Bool.{Bool, true, false, cond}
-use mathlib.Core.Path.{◌≡◌, refl, ap, ◌∙◌}
-use Prim.Native.Nat.{ℕ, zero, suc, ◌-◌, ◌≤◌, ◌<◌}
+use mathlib.Core.Path.{◌≡◌, refl}
+use Prim.Native.Nat.{ℕ, suc, ◌-◌, ◌≤◌, ◌<◌}
 use native.Mathlib.Omega.{arith}
-use borrow.Author.Tests.{le-leb, leb-true, lt-ltb, le-ltb, ltb-true}
-use lib.Dec.{leb, ltb, lit<}
-use lib.IntN.{ℤ, pos, negsuc, ◌-ℤ◌, +ℤ_idl}
-use mir.Facts.{to_z_pos, to_z-neg, to_z-of_z}
-use mir.Syntax.{w32, w64}
-use mir.Val.{SFits, to_z, of_z}
+use borrow.Author.Tests.{le-leb, leb-true, lt-ltb, ltb-true}
+use lib.Dec.{leb, ltb}
+use lib.IntN.{pos, negsuc}
+use mir.Facts.{to_z_pos, to_z-neg}
+use mir.Syntax.{w32}
+use mir.Val.{to_z}
 use Rattle.reading_numbers.specs.Numerals.{most_of, positive_bits, negative_bits, scale_of}
 use Rattle.reading_numbers.specs.declared.Numeral.TheVariants.{Above, Below, Scale}
 
@@ -25,39 +25,6 @@ negative_means v h =
 pub scale_means : (v : ℕ) → v ≤ most_of Scale → scale_of v ≡ v
 unfolding scale_of
 scale_means v h = rw (le-leb v (most_of Scale) h)
-
--- ---- by the distance below 0
-minus : ℕ → ℤ
-minus zero = pos 0
-minus (suc n) = negsuc n
-
-zero_minus : (n : ℕ) → pos 0 -ℤ pos n ≡ minus n
-unfolding minus
-zero_minus zero = +ℤ_idl (pos 0)
-zero_minus (suc n) = +ℤ_idl (negsuc n)
-
-minus_fits_64 : (n : ℕ) → n ≤ 2147483648 → SFits w64 (minus n)
-unfolding minus
-minus_fits_64 zero h = record { sfits = lit< tt }
-minus_fits_64 (suc n) h = record { sfits = omega arith }
-
-module _ (bits : ℕ) (fits : bits < 4294967296) (high : 2147483648 ≤ bits) where
-  distance : ℕ
-  distance = 4294967296 - bits
-
-  negated : pos 0 -ℤ to_z w64 distance ≡ minus distance
-  unfolding distance
-  negated = ap (λ (z : ℤ). pos 0 -ℤ z) (to_z_pos w64 {n = distance} (omega arith)) ∙ zero_minus distance
-
-  pub negated_fits : SFits w64 (pos 0 -ℤ to_z w64 (4294967296 - bits))
-  unfolding distance
-  negated_fits = rw negated (minus_fits_64 distance (omega arith))
-
-  pub narrowed : to_z w64 (of_z w64 (pos 0 -ℤ to_z w64 (4294967296 - bits))) ≡ to_z w32 bits
-  unfolding distance minus
-  narrowed =
-      let next : 4294967296 - bits ≡ suc (4294967296 - suc bits) = omega arith in
-      to_z-of_z negated_fits ∙ negated ∙ rw (next, le-ltb bits 2147483648 high)
 
 -- ---- they are 32 bits
 pub positive_fits : (v : ℕ) → positive_bits v < 4294967296
