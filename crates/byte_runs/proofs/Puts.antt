@@ -86,12 +86,9 @@ pub put_one : {ok r q : Bool} {l l' l'' : List ℕ} {at n : ℕ} {f : ℕ → �
 put_one a b = (a.done ∙ sym b.done, a.bytes ∙ sym b.bytes)
 
 -- what a copy of a part, and a fill of one, leave: k is how the code gives the part's length
-pub put_copy : (dst src ys : List ℕ) (at from n k : ℕ) → k ≡ n → at + n ≤ length dst → from + n ≤ length src → ys ≡ take n (drop from src)
-    → put_mid at k dst ys ≡ filled dst at (copied_from src from) n
-put_copy dst src ys at from n k q r s e =
-    let size : length (take n (drop from src)) ≡ n = length-take-le n (drop from src) (omega (arith, length-drop from src)) in
-    rw (q, e) (part_filled dst at (copied_from src from) n (take n (drop from src)) r size
-    (λ j lt. get_or-take n (drop from src) j 0 lt ∙ get_or-drop from src j 0))
+pub put_copy : (dst src ys : List ℕ) (at from n k : ℕ) → k ≡ n → at + n ≤ length dst → length ys ≡ n
+    → ((j : ℕ) → j < n → get_or ys j 0 ≡ copied_from src from j) → put_mid at k dst ys ≡ filled dst at (copied_from src from) n
+put_copy dst src ys at from n k q r size same = rw q (part_filled dst at (copied_from src from) n ys r size same)
 
 pub put_fill : (dst ys : List ℕ) (at n k m v : ℕ) → k ≡ n → m ≡ n → at + n ≤ length dst → ys ≡ replicate m v
     → put_mid at k dst ys ≡ filled dst at (λ (j : ℕ). v) n

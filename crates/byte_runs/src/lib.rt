@@ -32,8 +32,9 @@ fn has_room(length: usize, at: usize, n: usize) -> bool
     at <= length && n <= length - at
 }
 
-// n bytes of src from `from` on go to dst from `at` on. False, and nothing is written, where one of them has no room for that.
-#[tactic(auto, using(crate::proofs::Puts::put_copy), unfolding(crate::specs::Runs::room))]
+// n bytes of src from `from` on go to dst from `at` on. False, and nothing is written, where one of them has no room for that. It is no
+// `copy_from_slice`, which is compiled to a call of `memmove`: who links to host_c would have to bring that name.
+#[tactic(auto, unfolding(crate::specs::Runs::room))]
 pub fn copy(dst: &mut [u8], at: usize, src: &[u8], from: usize, n: usize) -> bool
     ensures { FilledIf (room (length src.now) from n && room (length dst.old) at n)
         dst.old at (copied_from src.now from) n dst.new result }
@@ -41,7 +42,9 @@ pub fn copy(dst: &mut [u8], at: usize, src: &[u8], from: usize, n: usize) -> boo
     if !has_room(src.len(), from, n) || !has_room(dst.len(), at, n) {
         return false;
     }
-    dst[at..at + n].copy_from_slice(&src[from..from + n]);
+    for (k, byte) in dst[at..at + n].iter_mut().enumerate() {
+        *byte = src[from + k];
+    }
     true
 }
 

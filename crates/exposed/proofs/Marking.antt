@@ -11,7 +11,7 @@ use native.Mathlib.Decide.{dec_lt}
 use native.Mathlib.Nat.{le_of_suc-le-suc, not-suc-le-zero}
 use native.Mathlib.Omega.{arith}
 use lib.Dec.{eqb}
-use lib.ListN.{length, get_or, set, length-set, replicate}
+use lib.ListN.{length, get_or, set, length-set, take, replicate}
 use lib.Seq.{ext_get_or, get_or-set_same, get_or-set_other}
 use borrow.Author.Tests.{eqb-true, eqb-false, le-leb, lt-leb}
 use Rattle.utils.specs.Outcome.{gives, refuses}
@@ -137,12 +137,12 @@ listing_step now ys x on l =
 pub listing_all : (ys cs : List Call) (on : List Bool) → ys ≡ reverse cs → Listing (reverse ys) on → Listing cs on
 listing_all ys cs on e l = subst (λ (ds : List Call). Listing ds on) (ap reverse e ∙ reverse-reverse cs) l
 
-pub listing_done : (cs : List Call) (on : List Bool) → length cs ≤ 64 → Listing cs on
-    → ◌≡◌ {A = ReportAnswer} record { outcome = gives []; places = on } (reported cs)
+pub listing_done : (calls : List Call) (n : ℕ) (on : List Bool) → n ≤ 64 → Listing (take n calls) on
+    → ◌≡◌ {A = ReportAnswer} record { outcome = gives []; places = on } (reported calls n)
 unfolding reported
-listing_done cs on h l = simp (le-leb (length cs) 64 h) (rw l refl)
+listing_done calls n on h l = simp (le-leb n 64 h) (rw l refl)
 
-pub listing_refused : (cs : List Call) → 64 < length cs
-    → ◌≡◌ {A = ReportAnswer} record { outcome = refuses 12; places = replicate 182 false } (reported cs)
+pub listing_refused : (calls : List Call) (n : ℕ) → 64 < n
+    → ◌≡◌ {A = ReportAnswer} record { outcome = refuses 12; places = replicate 182 false } (reported calls n)
 unfolding reported
-listing_refused cs h = simp (lt-leb (length cs) 64 h)
+listing_refused calls n h = simp (lt-leb n 64 h)

@@ -1,5 +1,5 @@
 -- The report (RULES 8.5): of each of the 182 places, in their order, whether it is exposed.
-use Rattle.std.specs.Prelude.{Bool, false, cond, List, [], ◌∷◌, ◌≡◌, ℕ, zero, suc, leb, length, get_or, replicate, Result, Ok, Err}
+use Rattle.std.specs.Prelude.{Bool, false, cond, List, [], ◌∷◌, ◌≡◌, ℕ, zero, suc, leb, length, get_or, take, replicate, Result, Ok, Err}
 use Rattle.utils.specs.Outcome.{Outcome, gives, refuses}
 use Rattle.calls.specs.declared.Call.{Call}
 use Rattle.effects.specs.Exposed.{exposed}
@@ -37,10 +37,10 @@ call_rewrites c p = in_spans (rewrites_of c) p
 abbrev pub call_of_act : Act → Call
 call_of_act a = a.call
 
--- of at most 64 calls their exposed places; all no where the list is refused (RULES 8.5)
-unfoldable pub reported : List Call → ReportAnswer
-reported cs =
-    cond (leb (length cs) 64) (record { outcome = gives []; places = truths_of 182 (exposed call_reads call_rewrites cs) })
+-- a list has room for 64 calls and states a count: the exposed places of the first n calls; all no where the list is refused (RULES 8.5)
+unfoldable pub reported : List Call → ℕ → ReportAnswer
+reported calls n =
+    cond (leb n 64) (record { outcome = gives []; places = truths_of 182 (exposed call_reads call_rewrites (take n calls)) })
     (record { outcome = refuses 12; places = replicate 182 false })
 
 -- ---- what only private functions' contracts cite

@@ -70,19 +70,21 @@ fn mark_all(on: &mut [bool; 182], spans: Spans, value: bool)
     mark(on, spans.four, value);
 }
 
-// The exposed places of a list of calls (RULES 8.5). Refuses 12. No event.
+// The exposed places of the first count calls, whatever stands behind them, or of all where fewer stand there (RULES 8.5). Refuses 12. No
+// event. The count is no slice's length, for it may be any number, above 64 too, of a list that has room for 64.
 // From the last call to the first: what a call rewrites is no longer exposed, and then what it reads is.
-pub fn exposed_places(calls: &[Call]) -> Report
-    ensures { report_answer result ≡ reported calls.now }
+pub fn exposed_places(calls: &[Call], count: usize) -> Report
+    ensures { report_answer result ≡ reported calls.now count }
 {
-    if MOST < calls.len() {
+    if MOST < count {
         return Report {
             verdict: Err(TooManyCalls),
             places: [false; 182],
         };
     }
+    let listed = &calls[..count.min(calls.len())];
     let mut on = [false; 182];
-    for call in calls.iter().rev() {
+    for call in listed.iter().rev() {
         let rewrites = effects::rewrites_of(*call);
         let reads = effects::reads_of(*call);
         mark_all(&mut on, rewrites, false);

@@ -48,7 +48,7 @@ pub(crate) fn reports(turns: u64) -> u64 {
     let mut sum = 1;
     for _ in 0..turns {
         list[(sum >> 50) as usize % 64] = any_call(sum >> 30);
-        let report = exposed::exposed_places(&list);
+        let report = exposed::exposed_places(&list, 64);
         let exposed = report.places[(sum >> 40) as usize % 182];
         sum = mix(sum, u64::from(exposed));
     }

@@ -20,11 +20,10 @@ use Rattle.mmu.specs.Calls.{read_outcome, read_out, write_outcome, write_store, 
 use Rattle.store.specs.Store.{Store, is_store, pages_in_use, unused, touched, absent_of, slots_lacking}
 use Rattle.walk.specs.Walk.{physical}
 use Rattle.machine_state.specs.Address.{address_of}
-use Rattle.machine_state.specs.Answers.{Value, given_values, CallResult}
+use Rattle.machine_state.specs.Answers.{CallResult}
 use Rattle.machine_state.specs.Memory.{leaves, word_outcome, cr3, rsp, minus64, read_memory, write_memory, valued, with_value, loaded}
 use Rattle.machine_state.specs.Memory.{stored_at}
 use Rattle.machine_state.specs.Memory.{read_operand, write_operand, rsp_if_accepted, pushed, popped}
-use Rattle.machine_state.specs.Operating.{operated}
 use Rattle.machine_state.specs.declared.Event.TheVariants.{Quiet}
 use Rattle.machine_state.specs.declared.MachineState.{MachineState}
 use Rattle.calls.specs.Step.{step, with_lent}
@@ -158,10 +157,11 @@ addressed m s l (arg.EffectiveAddress b None c d) k h = absurd (h refl)
 addressed m s l (arg.EffectiveAddress b (Some r) None d) k h = plain m s l k 3 refl
 addressed m s l (arg.EffectiveAddress b (Some r) (Some n) d) k h = absurd (h refl)
 
--- an operation on two given values is never refused
-pub never_refused : (o : Operation) (z : ArgumentSize) (a b : ℕ) (m : MachineState)
-    → (gives {X = Value} (given_values (operated m o z a b).given)).number ≡ 0
-never_refused o z a b m = refl
+-- an operation on two given values is never refused, whatever machine, store and lent bytes it is carried out on
+pub never_refused : (o : Operation) (z : ArgumentSize) (a b : ℕ) (m : MachineState) (s : Store) (l : List ℕ)
+    → (step (Arithmetic o z a b) m s l).outcome.number ≡ 0
+unfolding step
+never_refused o z a b m s l = refl
 
 pub refused_untouched : RefusedUntouched
 unfolding step pushed popped access_of
@@ -180,4 +180,4 @@ refused_untouched (TestFlag f) m s l h = absurd (h refl)
 refused_untouched (SetFlag f b) m s l h = absurd (h refl)
 refused_untouched (ComputeFlags x z) m s l h = absurd (h refl)
 refused_untouched (ComputeSizedFlags x z) m s l h = absurd (h refl)
-refused_untouched (Arithmetic o z a b) m s l h = absurd (h (never_refused o z a b m))
+refused_untouched (Arithmetic o z a b) m s l h = absurd (h (never_refused o z a b m s l))

@@ -13,4 +13,4 @@ pub exposed_means : (acts : List Act) (p : ℕ) → ExposedMeans acts p
 exposed_means acts p = record { only = theorem.exposed_says acts p; where_so = theorem.exposed_where acts p }
 
 pub report_exact : ReportExact
-report_exact acts few = record { accepted = exact.report_accepted acts few; places = exact.report_exact acts few }
+report_exact acts rest few = record { accepted = exact.report_accepted acts rest few; places = exact.report_exact acts rest few }

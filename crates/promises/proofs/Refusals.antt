@@ -130,7 +130,7 @@ refused_in_order (TestFlag f) m s l = refl
 refused_in_order (SetFlag f b) m s l = refl
 refused_in_order (ComputeFlags x z) m s l = refl
 refused_in_order (ComputeSizedFlags x z) m s l = refl
-refused_in_order (Arithmetic o z a b) m s l = never_refused o z a b m
+refused_in_order (Arithmetic o z a b) m s l = never_refused o z a b m s l
 
 -- ---- accepted: no number of the table is 0
 some_numbers : List Check → Bool

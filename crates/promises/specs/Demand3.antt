@@ -1,8 +1,9 @@
 -- Demand 3, forgotten readers (RULES 8.4, 8.5). A place is exposed by the table of calls (`exposed`, effects/specs/Exposed.antt); a machine
 -- of Rattle has 22 words below 2^64 and so on by its type (`WellTyped`, effects/specs/Places.antt); what a call does is `step`, which
 -- `calls::perform` is proved to do.
-use Rattle.std.specs.Prelude.{true, false, List, [], map, ◌≡◌, ℕ, ◌<◌, ◌≤◌, length, get_or}
+use Rattle.std.specs.Prelude.{true, false, List, [], ◌++◌, map, ◌≡◌, ℕ, ◌<◌, ◌≤◌, length, get_or}
 use Rattle.utils.specs.Outcome.{gives}
+use Rattle.calls.specs.declared.Call.{Call}
 use Rattle.effects.specs.Exposed.{exposed, Exposes, Forgotten}
 use Rattle.effects.specs.Places.{Act, State, WellTyped, place, reads, rewrites, does, store_in, place_in}
 use Rattle.exposed.specs.Reported.{call_of_act, reported}
@@ -24,15 +25,15 @@ pub record ExposedMeans (acts : List Act) (p : ℕ) : Type 0 where
   pub only : exposed reads rewrites acts p ≡ true → Exposes reads rewrites acts p
   pub where_so : Exposes reads rewrites acts p → exposed reads rewrites acts p ≡ true
 
--- the report of up to 64 calls is exactly the exposed places (RULES 8.5), and it is accepted
-pub record Exact (acts : List Act) : Type 0 where
-  pub accepted : (reported (map call_of_act acts)).outcome ≡ gives []
+-- the report of up to 64 calls is exactly the exposed places (RULES 8.5): it is accepted, whatever stands behind the calls in the list
+pub record Exact (acts : List Act) (rest : List Call) : Type 0 where
+  pub accepted : (reported (map call_of_act acts ++ rest) (length acts)).outcome ≡ gives []
   pub places : (p : ℕ)
       → p < 182
-      → get_or (reported (map call_of_act acts)).places p false ≡ exposed reads rewrites acts p
+      → get_or (reported (map call_of_act acts ++ rest) (length acts)).places p false ≡ exposed reads rewrites acts p
 
 abbrev pub ReportExact : Type 0
 ReportExact =
-    (acts : List Act)
+    (acts : List Act) (rest : List Call)
     → length acts ≤ 64
-    → Exact acts
+    → Exact acts rest

@@ -1,4 +1,5 @@
 -- The numbers of operand text (RULES 6.2, 6.4, 6.5), digit by digit: which byte may begin one, which may go on, and what the digits mean
+-- (RULES 6.10, 6.11).
 use Rattle.std.specs.Prelude.{Option, Some, None, cond, ℕ, ◌+◌, ◌-◌, ◌*◌, ltb, leb}
 use Rattle.reading_numbers.specs.declared.Numeral.{Numeral}
 use Rattle.reading_numbers.specs.declared.Numeral.TheVariants.{Immediate, Above, Below, Scale}

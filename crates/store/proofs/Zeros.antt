@@ -1,15 +1,17 @@
--- The page of zeros: one step of the search for a byte that is none, what its end says, and that each of its bytes is 0. By cases on the
--- byte.
-use mathlib.Core.Path.{◌≡◌, refl}
-use mathlib.Core.Bool.{Bool, true, false}
+-- The page of zeros: what one byte of it and what is left of it say, what a fold over all its bytes gives, and that each of its bytes is 0.
+-- By cases on the byte.
+use mathlib.Core.Path.{◌≡◌, refl, ◌∙◌}
+use mathlib.Core.Bool.{Bool, true, false, ◌&&◌}
 use mathlib.Core.List.{List, [], ◌∷◌}
 use Prim.Native.Nat.{ℕ, zero, suc, ◌+◌, ◌<◌, ◌≤◌}
 use native.Mathlib.Numerals.{add-one}
+use native.Mathlib.Omega.{arith}
 use lib.Dec.{eqb}
 use lib.ListN.{length, get_or, drop, drop_of_length-le}
 use lib.Seq.{drop-cons}
 use borrow.Author.Tests.{eq-eqb, ne_eqb, eqb-true}
 use Rattle.std.proofs.lemmas.Bool.{and_parts}
+use Rattle.std.specs.List.{fold}
 use Rattle.store.specs.View.{all_zero, zero_page}
 
 -- one more zero, and a byte that is none
@@ -21,6 +23,11 @@ zero_stop z k h e = rw (drop-cons z k 0 h, ne_eqb (get_or z k 0) 0 e)
 
 pub zero_end : (z : List ℕ) (k : ℕ) → length z ≤ k → all_zero (drop k z) ≡ true
 zero_end z k h = rw (drop_of_length-le z h)
+
+-- by a fold over all of its bytes
+pub zero_fold : (z : List ℕ) (a : Bool) → fold (λ b x. b && eqb x 0) a z ≡ (a && all_zero z)
+zero_fold [] a = grind arith
+zero_fold (x ∷ z) a = zero_fold z (a && eqb x 0) ∙ grind arith
 
 pub page_short : (z : List ℕ) → (length z ≡ 4096 → ⊥) → zero_page z ≡ false
 unfolding zero_page

@@ -99,13 +99,17 @@ fn put_control(out: &mut [u8], register: Register, value: u64) -> usize
     put_hex(out, q, value)
 }
 
+// A byte's character takes one byte of UTF-8 below 0x80, and else these two. (By `char::encode_utf8` it took more instructions, and the
+// edit of a byte that stands for itself was refused for its form alone.)
 fn put_video(out: &mut [u8], byte: u8) -> usize
     ensures { TextPut 9 out.old 0 (ascii "VIDEO: " ++ utf8 byte) out.new result }
 {
-    let mut room = [0; 4];
-    let character = char::from(byte).encode_utf8(&mut room);
     let o = put_bytes(out, 0, b"VIDEO: ");
-    put_bytes(out, o, character.as_bytes())
+    if byte < 0x80 {
+        return put_byte(out, o, byte);
+    }
+    let p = put_byte(out, o, 0xC0 + byte / 0x40);
+    put_byte(out, p, 0x80 + byte % 0x40)
 }
 
 // The line of an event (RULES 6.8), empty where there is none, from offset 0 on; answers the length.

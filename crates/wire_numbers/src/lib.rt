@@ -1,7 +1,7 @@
 // Registers, sizes and operations by their numbers, the first two in the Rust's order, as the records of the comparison and a host give
 // them (docs/FORMAT.md, host/ruonasvel.h); a flag's number is instruction_set's.
 // Below are instruction_set and arithmetic, which have the names; above are `wire_records`,
-// `wire_session`, host, and reading_names, which finds a register by its number.
+// `wire_session`, host, and reading_names, whose definitions go by a register's number.
 // It serves the reading of names, RULES 6.11; the numbers are docs/FORMAT.md's.
 #![tactic(auto)]
 

@@ -53,15 +53,15 @@ module _ (h : Header) (l : List ℕ) where
   is_whole a b d = rw (le-leb (h.length / 128) 64 a, b, le-leb 182 (length l) d)
 
 -- what the report says is what is answered
-pub report_reply : {r : Option Reply} (p : Report) (cs : List Call) → report_answer p ≡ reported cs
+pub report_reply : {r : Option Reply} (p : Report) (cs : List Call) (n : ℕ) → report_answer p ≡ reported cs n
     → r ≡ Some (reply_of (word_outcome (verdict_outcome p.verdict)) 182)
-    → r ≡ Some (reply_of (word_outcome (reported cs).outcome) 182)
-report_reply p cs e h = h ∙ ap (λ (s : ReportAnswer). Some (reply_of (word_outcome s.outcome) 182)) e
+    → r ≡ Some (reply_of (word_outcome (reported cs n).outcome) 182)
+report_reply p cs n e h = h ∙ ap (λ (s : ReportAnswer). Some (reply_of (word_outcome s.outcome) 182)) e
 
-pub report_bytes : (l : List ℕ) {l' : List ℕ} (p : Report) (cs : List Call) → report_answer p ≡ reported cs
+pub report_bytes : (l : List ℕ) {l' : List ℕ} (p : Report) (cs : List Call) (n : ℕ) → report_answer p ≡ reported cs n
     → l' ≡ filled l 0 (place_byte p.places) 182
-    → l' ≡ filled l 0 (place_byte (reported cs).places) 182
-report_bytes l p cs e h = h ∙ ap (λ (s : ReportAnswer). filled l 0 (place_byte s.places) 182) e
+    → l' ≡ filled l 0 (place_byte (reported cs n).places) 182
+report_bytes l p cs n e h = h ∙ ap (λ (s : ReportAnswer). filled l 0 (place_byte s.places) 182) e
 
 -- one place more
 pub place_more : (l : List ℕ) (ps : List Bool) {d : List ℕ} (k : ℕ) → d ≡ filled l 0 (place_byte ps) k

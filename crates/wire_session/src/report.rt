@@ -30,8 +30,7 @@ fn put_places(lent: &mut [u8], places: [bool; 182])
     }
 }
 
-// The report of the calls in the block, at most 64, with the count that the header states. Of a count above 64 the report is refused: 65
-// calls are then as good as more.
+// The report of the calls in the block, at most 64, with the count that the header states: any number, so it stands beside the list.
 #[tactic(auto, unfolding(crate::specs::Reports::Reports))]
 pub(crate) fn exposed_report(header: Header, lent: &mut [u8]) -> Option<Reply>
     ensures { Reports header lent.old result lent.new }
@@ -40,12 +39,11 @@ pub(crate) fn exposed_report(header: Header, lent: &mut [u8]) -> Option<Reply>
     if 64 < n || header.length % 128 != 0 || lent.len() < 182 {
         return None;
     }
-    let mut calls = [Call::Push; 65];
+    let mut calls = [Call::Push; 64];
     for k in 0..n {
         calls[k] = wire_records::decode_call(wire_records::header_in(lent, k))?;
     }
-    let count = header.a.min(65) as usize;
-    let report = exposed::exposed_places(&calls[..count]);
+    let report = exposed::exposed_places(&calls, header.a as usize);
     put_places(lent, report.places);
     Some(reply(report.verdict))
 }

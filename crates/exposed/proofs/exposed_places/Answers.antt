@@ -1,6 +1,7 @@
 -- `exposed::exposed_places` meets its contract: each turn goes through one call more, and in the end through all (`Listing`).
 -- Assumes nothing.
-use Rattle.std.proofs.Common.{rules, arith}
+use Rattle.std.proofs.Common.{take, ℕ, ◌≡◌, ap, ◌∙◌, rules, arith}
+use Rattle.std.proofs.lemmas.List.{take_min}
 use Rattle.std.proofs.lemmas.Iterator.Consumers.{YieldsList-end}
 use Rattle.std.proofs.lemmas.Iterator.Adapters.{YieldsList-from_rev_slice}
 use Rattle.effects.specs.Rows.{Inside}
@@ -8,8 +9,8 @@ use Rattle.effects.proofs.Inside.{reads_inside, rewrites_inside}
 use Rattle.exposed.proofs.Marking.{listing_none, listing_more, listing_step, listing_all, listing_done, listing_refused}
 use Rattle.exposed.proofs.exposed_places.Goals as goal
 
-pub returns-then-calls-gt-MOST : goal.returns-then-calls-gt-MOST
-returns-then-calls-gt-MOST c = listing_refused c.args.calls.now (omega arith)
+pub returns-then-count-gt-MOST : goal.returns-then-count-gt-MOST
+returns-then-count-gt-MOST c = listing_refused c.args.calls.now c.args.count (omega arith)
 
 pub loop-call-init : goal.loop-call-init
 loop-call-init c = listing_none
@@ -31,6 +32,10 @@ loop-call-preserved c =
 
 pub returns : goal.returns
 returns c =
-    let all = YieldsList-end (YieldsList-from_rev_slice c.args.calls.now cc) c.loop-call.yielded _ c.loop-call.yielded_by _ _ c.in-None.is
-    c.next.ensures.steps in
-    listing_done c.args.calls.now c.loop-call.on (omega arith) (listing_all _ c.args.calls.now _ all.0 c.loop-call.invariant)
+    let listed = c.args.calls.now in
+    let short : take c.min.result listed ≡ take c.args.count listed =
+    ap (λ (n : ℕ). take n listed) c.min.ensures ∙ take_min c.args.count listed in
+    let all = YieldsList-end (YieldsList-from_rev_slice (take c.min.result listed) cc) c.loop-call.yielded _ c.loop-call.yielded_by _ _
+    c.in-None.is c.next.ensures.steps in
+    listing_done listed c.args.count c.loop-call.on (omega arith)
+    (rw short at (listing_all _ (take c.min.result listed) _ all.0 c.loop-call.invariant))

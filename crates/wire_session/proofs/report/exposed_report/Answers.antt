@@ -2,11 +2,7 @@
 use Rattle.std.specs.Prelude.{Some}
 use mathlib.Core.Path.{◌≡◌, refl, sym, ap, ◌∙◌}
 use native.Mathlib.Omega.{arith}
-use Prim.Native.Nat.{ℕ, ◌/◌}
-use lib.ListN.{length, take}
-use borrow.Author.Rules.{rules}
-use Rattle.std.proofs.lemmas.List.{take_min}
-use Rattle.exposed.specs.Reported.{report_answer, reported}
+use Prim.Native.Nat.{◌/◌}
 use Rattle.wire_records.specs.declared.Reply.{Reply}
 use Rattle.wire_session.specs.Reports.{calls_listed, Reports}
 use Rattle.wire_session.proofs.Replying.{no_record}
@@ -41,12 +37,10 @@ returns c =
     let m = c.loop-k in
     let e : m.k ≡ a.header.length / 128 = omega (arith, c.loop-k-test.false) in
     let all : calls_listed a.lent.now (a.header.length / 128) ≡ Some m.calls = rw e at m.invariant in
-    let long : length m.calls ≡ 65 = search rules in
-    let first : report_answer c.exposed_places-report.result ≡ reported (take a.header.a m.calls) =
-    c.exposed_places-report.ensures ∙ ap (λ (k : ℕ). reported (take k m.calls)) c.min-count.ensures
-    ∙ ap reported (rw long at (take_min a.header.a m.calls)) in
     rw (is_whole a.header a.lent.now c.if-n-gt64.false c.if-header-ne0.false c.if-lent-lt182.false, all)
     (record {
-      reply = report_reply c.exposed_places-report.result (take a.header.a m.calls) first (ap (λ (r : Reply). Some r) c.reply.ensures);
-      bytes = report_bytes a.lent.now c.exposed_places-report.result (take a.header.a m.calls) first c.put_places.ensures;
+      reply = report_reply c.exposed_places-report.result m.calls a.header.a c.exposed_places-report.ensures
+          (ap (λ (r : Reply). Some r) c.reply.ensures);
+      bytes = report_bytes a.lent.now c.exposed_places-report.result m.calls a.header.a c.exposed_places-report.ensures
+          c.put_places.ensures;
     })
