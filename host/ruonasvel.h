@@ -1,4 +1,5 @@
-/* A host in C that keeps one machine and lends it: crates/host, linked from target/staticlib/libhost.a, which tools/link writes of crates/host_c. */
+/* A host in C that keeps one machine and lends it: crates/host, linked from target/staticlib/libhost.a, which tools/link writes of crates/host_c. The
+   library wants memcpy and memset from outside, and no other name. */
 #ifndef RUONASVEL_H
 #define RUONASVEL_H
 
