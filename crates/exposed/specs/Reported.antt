@@ -37,7 +37,8 @@ call_rewrites c p = in_spans (rewrites_of c) p
 abbrev pub call_of_act : Act → Call
 call_of_act a = a.call
 
--- a list has room for 64 calls and states a count: the exposed places of the first n calls; all no where the list is refused (RULES 8.5)
+-- the exposed places of the first n calls of a list, or of all where fewer stand there; where n is above 64 it is refused, and all are no
+-- (RULES 8.5)
 unfoldable pub reported : List Call → ℕ → ReportAnswer
 reported calls n =
     cond (leb n 64) (record { outcome = gives []; places = truths_of 182 (exposed call_reads call_rewrites (take n calls)) })

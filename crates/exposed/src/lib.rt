@@ -70,8 +70,8 @@ fn mark_all(on: &mut [bool; 182], spans: Spans, value: bool)
     mark(on, spans.four, value);
 }
 
-// The exposed places of the first count calls, whatever stands behind them, or of all where fewer stand there (RULES 8.5). Refuses 12. No
-// event. The count is no slice's length, for it may be any number, above 64 too, of a list that has room for 64.
+// The exposed places of the first count calls, whatever stands behind them, or of all where fewer stand there (RULES 8.5): with
+// `calls.len()`, of the whole list. The count stands beside the list because it may be any number, above 64 too. Refuses 12. No event.
 // From the last call to the first: what a call rewrites is no longer exposed, and then what it reads is.
 pub fn exposed_places(calls: &[Call], count: usize) -> Report
     ensures { report_answer result ≡ reported calls.now count }
